@@ -1,4 +1,5 @@
 pub mod Nodes
+pub mod Scrollers
 pub mod Parts
 pub mod Signed
 pub mod Limited

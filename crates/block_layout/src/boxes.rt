@@ -43,7 +43,7 @@ impl Model for BoxOf {
 }
 
 impl BoxOf {
-    /// The size of the content box or of the border box. Device pixels are counted from the size of the content box, which it is then.
+    /// The size of the content box or of the border box; for `Device` that of the content box, from which device pixels are counted.
     pub fn size(&self, kind: BoxKind) -> Size
         ensures content { kind ≡ BoxKind.Content → result ≡ as_size (content_size self.now) }
         ensures border { kind ≡ BoxKind.Border → result ≡ as_size (border_size self.now) }
@@ -187,7 +187,7 @@ impl BoxOf {
     }
 }
 
-// Inputs without their signs.
+// Inputs by their absolute values.
 #[derive(Clone, Copy)]
 pub(crate) struct Given {
     pub(crate) width: u64,
@@ -225,7 +225,7 @@ fn signed(units: u64) -> i64
     units as i64
 }
 
-// The used height where it doesn't rest on the children: it is given, or found between insets (CSS 2.2, 10.5 and 10.6.4).
+// The used height where it doesn't depend on the children: it is given, or found between insets (CSS 2.2, 10.5 and 10.6.4).
 fn definite_height(style: &Style, inputs: Given, used: u64) -> Option<i64>
     requires { used ≤ 2147483647 }
     ensures value { (item : Item) → item.style ≡ seen_style style.now → result ≡ cond (has_definite_height item (seen_given inputs)) (Some (pos used)) None }

@@ -16,7 +16,7 @@ use layout_model::capped;
 use std::sync::ledger::Ledger;
 use step_count::Steps;
 
-// A capped sum of heights, with one more.
+// A sum of heights with one more, capped.
 pub(crate) fn added(inside: u64, height: u64) -> u64
     requires inside { inside ≤ 2147483647 }
     requires height { height ≤ 2 ^ 34 }
@@ -26,8 +26,8 @@ pub(crate) fn added(inside: u64, height: u64) -> u64
     capped(inside + height)
 }
 
-/// The box of a node at its inputs, computed anew with all boxes in it (CSS 2.2, 10). The node's own `display` isn't
-/// asked, and nothing out of flow in it is computed, on which it doesn't rest. It takes one step for each of these boxes.
+/// The box of a node at its inputs, computed anew with all boxes in it (CSS 2.2, 10). The node's own `display` is ignored. Boxes out of
+/// flow in it aren't computed: its own doesn't depend on them. It takes one step for each box that is computed.
 ///
 /// It calls itself once a level: a tree of 2,000 levels was tried, while some 5,000 may use up the stack.
 pub fn fresh_box<P: Styled, L: Ledger>(

@@ -61,7 +61,7 @@ impl Boxes for FreshBoxes {
 }
 
 impl FreshBoxes {
-    /// No place, which takes no memory yet.
+    /// No places; it takes no memory yet.
     pub fn new(alloc: Global) -> FreshBoxes
         ensures { result ≡ [] }
     {
@@ -83,9 +83,9 @@ impl FreshBoxes {
         Ok(())
     }
 
-    /// Computes every box of the tree under a root element anew, from the root's inputs, and holds it. The nodes in that
-    /// tree without a box hold none afterwards (CSS 2.2, 9.2.4), and a box without a place isn't held. It takes one step
-    /// for each box. A node with a parent serves as root too, for what is in it. It is so where no element of the tree is positioned.
+    /// Computes every box of the tree under a root element anew, from the root's inputs, and holds it. The nodes in that tree without a box
+    /// hold none afterwards (CSS 2.2, 9.2.4), and a box without a place isn't held. It takes one step for each box. The root may have a
+    /// parent: then the boxes in its subtree are computed. Exact as long as no element of the tree is positioned.
     ///
     /// It calls itself once a level: a tree of 2,000 levels was tried, while some 5,000 may use up the stack.
     pub fn fill<P: Styled, L: Ledger>(
@@ -130,7 +130,7 @@ fn inputs_within<P: Styled>(tree: &Tree<P>, node: NodeId, inputs: Option<Inputs>
     }
 }
 
-// The inputs of a node to which these are handed down.
+// The inputs of a child, from those that its parent hands down: none where it isn't displayed.
 fn inputs_of_child<P: Styled>(
     tree: &Tree<P>,
     node: NodeId,
@@ -153,8 +153,8 @@ fn put(places: &mut [Option<BoxOf>], node: NodeId, found: Option<BoxOf>)
     }
 }
 
-// Computes the box of a node with these inputs, none where there are none, from the heights in it, and holds it. What is
-// given back is the height of the margin box, 0 without a box.
+// Computes the box of a node with these inputs, none where there are none, from the heights in it, and holds it. Returns the height of the
+// margin box, 0 without a box.
 fn hold<P: Styled, L: Ledger>(
     places: &mut [Option<BoxOf>],
     tree: &Tree<P>,
@@ -184,8 +184,8 @@ fn hold<P: Styled, L: Ledger>(
     }
 }
 
-// Holds the boxes of a node with these inputs and of its descendants; none have a box where there are no inputs. What is
-// given back is the height of the node's margin box, 0 without a box.
+// Holds the boxes of a node with these inputs and of its descendants; none have a box where there are no inputs. Returns the height of the
+// node's margin box, 0 without a box.
 fn fill_below<P: Styled, L: Ledger>(
     places: &mut [Option<BoxOf>],
     tree: &Tree<P>,

@@ -1,5 +1,5 @@
-//! Boxes of block layout (CSS 2.2, 8 to 11): their sizes, how far they reach, and places that hold them. All lengths are
-//! in units of 1/64 CSS pixel, and count by what they are without a sign.
+//! Boxes of block layout (CSS 2.2, 8 to 11): their sizes, how far they reach, and places that hold them. All lengths are in units of 1/64
+//! CSS pixel, by their absolute values.
 #![tactic(auto)]
 
 mod boxes;
@@ -15,14 +15,14 @@ pub use fresh::fresh_box;
 pub use held::{Boxes, FreshBoxes};
 use px_units::Size;
 pub use reach::overflow_reach;
-pub use trees::Styled;
+pub use trees::{Styled, first_inner, is_block, is_clipping, is_hidden, is_scroll_container};
 
 /// What a box takes from above: the width of the containing block, and its height where that is definite (CSS 2.2, 10.1
 /// and 10.5). Each is from 0 to 2,147,483,647 units.
 #[derive(Clone, Copy, Debug, PartialEq, Eq)]
 pub struct Inputs {
     pub width: i64,
-    /// None where it isn't known before the heights of the content.
+    /// None where it depends on the heights of the content.
     pub height: Option<i64>,
     /// Whether the box is in flow (CSS 2.2, 9.3), as each root element's is.
     pub flow: bool,

@@ -1,5 +1,5 @@
-//! Used lengths along one axis, in units of 1/64 pixel (CSS 2.2, 10.2 to 10.7). Styles and inputs count by what they are
-//! without a sign, so that no length is out of range.
+//! Used lengths along one axis, in units of 1/64 pixel (CSS 2.2, 10.2 to 10.7). Lengths of styles and inputs count by their absolute
+//! values, so none is out of range.
 
 ghost use Rattle.std.specs.Prelude.{◌≡◌, ◌≤◌, ◌*◌, ◌/◌, IfSome, option_map, option_and_then};
 ghost use Rattle.px_units.specs.Lengths.{seen_length, seen_inset, cap, clamped, signed_part, inset_against};

@@ -71,9 +71,9 @@ impl Extent {
 /// at its own scroll offset 0; else the viewport of that size whose root element is `node`. Each length is at most
 /// 2,147,483,647 units.
 ///
-/// It is so where no element of the node's tree is positioned, and each box of the node and in it is held as it is now. A
-/// box that clips nothing reaches over its padding box alone. It calls itself once a level: a tree of 2,000 levels was
-/// tried, while some 5,000 may use up the stack.
+/// Exact as long as no element of the node's tree is positioned, and the boxes of the node and its descendants are up to date in `boxes`. A
+/// box that clips nothing reaches over its padding box alone. It calls itself once a level: a tree of 2,000 levels was tried, while some
+/// 5,000 may use up the stack.
 pub fn overflow_reach<P: Styled, B: Boxes>(
     tree: &Tree<P>,
     boxes: &B,
@@ -166,7 +166,7 @@ fn offset(parent: BoxOf, above: u64, child: BoxOf) -> Extent
     whole.capped()
 }
 
-// The farther of a border box's edges, from its corner on, and of what is in the box.
+// The farther of a border box's right and bottom edges and of `deeper`, how far its content reaches.
 fn far_edge(corner: Extent, own: BoxOf, deeper: Extent) -> Extent
     requires across { corner.across ≤ 65536 * 2147483647 }
     requires down { corner.down ≤ 65536 * 2147483647 }

@@ -117,7 +117,7 @@ pub(crate) fn around_content(style: &Style, width: u64) -> Around
     }
 }
 
-// What insets on both sides leave of a containing block, less what is around the content, cut to the largest length.
+// What insets on both sides and the edges around the content leave of a containing block, capped at the largest length.
 fn left_between(containing: u64, one: Option<i64>, other: Option<i64>, around: u64) -> u64
     ensures { result ≡ cap (left_between containing one other around) }
 {
@@ -161,7 +161,7 @@ pub(crate) fn is_stretched(style: &Style, inputs: Given) -> bool
     !inputs.flow && insets.one.is_some() && insets.other.is_some()
 }
 
-// The width of `auto`, as far as the largest length.
+// The width of `auto`, capped at the largest length.
 fn automatic_width(style: &Style, kind: ItemKind, inputs: Given, around: u64) -> u64
     ensures { cap result ≡ cap (automatic_width (seen_kind kind) (seen_given inputs) (used_insets (seen_style style.now).inset (seen_given inputs)) around) }
 {
@@ -176,7 +176,7 @@ fn automatic_width(style: &Style, kind: ItemKind, inputs: Given, around: u64) ->
     }
 }
 
-// The height of `auto`, as far as the largest length.
+// The height of `auto`, capped at the largest length.
 fn automatic_height(style: &Style, kind: ItemKind, inputs: Given, inside: u64, around: u64) -> u64
     ensures { cap result ≡ cap (automatic_height (seen_kind kind) (seen_given inputs) (used_insets (seen_style style.now).inset (seen_given inputs)) inside around) }
 {

@@ -1,8 +1,8 @@
 //! What layout asks of the elements of a tree.
 
-ghost use Rattle.std.specs.Prelude.{◌≡◌, ◌<◌, not, length};
+ghost use Rattle.std.specs.Prelude.{◌≡◌, ◌<◌, ◌&&◌, not, length};
 ghost use Rattle.layout_model.specs.Boxes.{kids_of, is_passed};
-ghost use Rattle.layout_model.specs.Clips.{clips, is_visible};
+ghost use Rattle.layout_model.specs.Clips.{clips, is_block, is_visible, is_clip, is_scroll_container};
 ghost use Rattle.element_tree.specs.Forest.{IsForest, first_of};
 ghost use Rattle.element_tree.specs.Links.{node_ids};
 ghost use Rattle.style_values.specs.Seen.{seen_style};
@@ -35,8 +35,8 @@ pub trait Styled {
         ensures { seen_kind result ≡ kind self.now };
 }
 
-// Whether the element itself has `display: none`.
-pub(crate) fn is_hidden<P: Styled>(tree: &Tree<P>, node: NodeId) -> bool
+/// Whether the element itself has `display: none`. No memory.
+pub fn is_hidden<P: Styled>(tree: &Tree<P>, node: NodeId) -> bool
     requires { node.0 < length tree.now.nodes }
     ensures value { result ≡ (layout_tree P.style P.kind tree.now.nodes node.0).item.style.hidden }
     ensures forest { IsForest tree.now.most_depth tree.now.nodes }
@@ -62,8 +62,20 @@ pub(crate) fn is_passed<P: Styled>(tree: &Tree<P>, node: NodeId) -> bool
     }
 }
 
-// The first of the children that may have boxes: those of a block.
-pub(crate) fn first_inner<P: Styled>(tree: &Tree<P>, node: NodeId) -> Option<NodeId>
+/// Whether the children of the element may have boxes: those of a block. No memory.
+pub fn is_block<P: Styled>(tree: &Tree<P>, node: NodeId) -> bool
+    requires { node.0 < length tree.now.nodes }
+    ensures value { result ≡ is_block (layout_tree P.style P.kind tree.now.nodes node.0).item.kind }
+    ensures forest { IsForest tree.now.most_depth tree.now.nodes }
+{
+    match tree.payload(node).kind() {
+        ItemKind::Block => true,
+        ItemKind::Image(_) | ItemKind::Frame => false,
+    }
+}
+
+/// The first of the children that may have boxes. No memory.
+pub fn first_inner<P: Styled>(tree: &Tree<P>, node: NodeId) -> Option<NodeId>
     requires { node.0 < length tree.now.nodes }
     ensures value { result ≡ node_ids (first_of (kids_of (layout_tree P.style P.kind tree.now.nodes node.0))) }
     ensures forest { IsForest tree.now.most_depth tree.now.nodes }
@@ -84,8 +96,9 @@ fn is_cut(style: &Style) -> bool
     }
 }
 
-// Whether the node's box cuts its content, at its padding box.
-pub(crate) fn is_clipping<P: Styled>(tree: &Tree<P>, node: NodeId) -> bool
+/// Whether the element's box, where it has one, cuts its content at its padding box (CSS Overflow 3, 3.1). What `overflow` says at a
+/// root element is the viewport's (CSS Overflow 3, 3.3). No memory.
+pub fn is_clipping<P: Styled>(tree: &Tree<P>, node: NodeId) -> bool
     requires { node.0 < length tree.now.nodes }
     ensures value { result ≡ clips (layout_tree P.style P.kind tree.now.nodes node.0) }
     ensures forest { IsForest tree.now.most_depth tree.now.nodes }
@@ -93,6 +106,30 @@ pub(crate) fn is_clipping<P: Styled>(tree: &Tree<P>, node: NodeId) -> bool
     let item = tree.payload(node);
     match item.kind() {
         ItemKind::Block => is_cut(item.style()) && tree.parent(node).is_some(),
+        ItemKind::Image(_) | ItemKind::Frame => false,
+    }
+}
+
+// Whether content that doesn't fit can be scrolled to (CSS Overflow 3, 3.1).
+fn is_scrollable(style: &Style) -> bool
+    ensures { result ≡ (not (is_visible (seen_style style.now).overflow) && not (is_clip (seen_style style.now).overflow)) }
+{
+    match style.overflow {
+        Overflow::Visible | Overflow::Clip => false,
+        Overflow::Hidden | Overflow::Scroll | Overflow::Auto => true,
+    }
+}
+
+/// Whether the element's box, where it has one, is a scroll container (CSS Overflow 3, 3.1). A root element's is none, as it doesn't clip.
+/// No memory.
+pub fn is_scroll_container<P: Styled>(tree: &Tree<P>, node: NodeId) -> bool
+    requires { node.0 < length tree.now.nodes }
+    ensures value { result ≡ is_scroll_container (layout_tree P.style P.kind tree.now.nodes node.0) }
+    ensures forest { IsForest tree.now.most_depth tree.now.nodes }
+{
+    let item = tree.payload(node);
+    match item.kind() {
+        ItemKind::Block => is_scrollable(item.style()) && tree.parent(node).is_some(),
         ItemKind::Image(_) | ItemKind::Frame => false,
     }
 }

@@ -5,10 +5,9 @@ use Rattle.page_model.specs.World.{ImplicitRoot}
 use Rattle.page_model.specs.Shown.{Shown, has_box}
 use Rattle.page_model.specs.Chains.{border_rect, clips_between, common_part, moved_back, origin_of_element, viewport_rect}
 use Rattle.clip_chain.specs.declared.spot.Spot.{Spot}
-use Rattle.clip_chain.specs.declared.spot.Spot.TheVariants.{View}
 use Rattle.clip_chain.specs.Chains.{IsAbove, Leads}
 use Rattle.clip_chain.specs.Visible.{part_between}
-use Rattle.clip_chain.specs.Worlds.{scene_of, element_spot}
+use Rattle.clip_chain.specs.Worlds.{scene_of, element_spot, view_spot}
 use Rattle.clip_chain.proofs.Worlds.{part_is}
 use Rattle.page_geometry.specs.Scenes.{IsPageTree}
 use Rattle.page_geometry.proofs.Chains.{above}
@@ -16,16 +15,16 @@ use Rattle.page_geometry.proofs.Ends.{few_between}
 use Rattle.box_inspector.specs.Boxes.{seen_part}
 
 module _ (it : Shown) (page : IsPageTree it.tree) (n : ℕ) (boxed : has_box it n ≡ true) where
-  pub to_screen : IsAbove (scene_of it) (View 0) (element_spot n)
+  pub to_screen : IsAbove (scene_of it) (view_spot 0) (element_spot n)
   to_screen = above it.tree it.screen it.scrolls page.framed ImplicitRoot n boxed refl
 
   part_seen : part_between (scene_of it) (element_spot n) to_screen.0 (viewport_rect it 0) ≡ common_part (border_rect it n) (viewport_rect it 0 ∷ clips_between it ImplicitRoot n)
   part_seen =
       part_is it ImplicitRoot n to_screen.0 (viewport_rect it 0) to_screen.1
-      (few_between it.tree it.screen it.scrolls page.framed page.few page.deep (element_spot n) (View 0) to_screen.0 to_screen.1)
+      (few_between it.tree it.screen it.scrolls page.framed page.few page.deep (element_spot n) (view_spot 0) to_screen.0 to_screen.1)
 
   pub seen_is : (screen : Rect) (result : Option Rect) → screen ≡ viewport_rect it 0
-      → ((between : List Spot) → Leads (scene_of it) (element_spot n) between (View 0) → result ≡ part_between (scene_of it) (element_spot n) between screen)
+      → ((between : List Spot) → Leads (scene_of it) (element_spot n) between (view_spot 0) → result ≡ part_between (scene_of it) (element_spot n) between screen)
       → result ≡ common_part (border_rect it n) (viewport_rect it 0 ∷ clips_between it ImplicitRoot n)
   seen_is screen result is part =
       part to_screen.0 to_screen.1 ∙ ap (λ limits. part_between (scene_of it) (element_spot n) to_screen.0 limits) is ∙ part_seen

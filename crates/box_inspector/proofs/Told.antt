@@ -1,7 +1,9 @@
 -- The boxes of a page, one by one.
 use Rattle.std.proofs.Common.{◌≡◌, ◌∙◌, ℕ, ◌+◌, ◌<◌, ◌≤◌, List, [], ◌∷◌, ◌++◌, Option, true, flat_map, get_or, length, map, take, refl, ap, sym, subst}
 use Rattle.std.proofs.lemmas.List.{append_assoc, map_more, take_all}
+use Rattle.element_tree.specs.declared.document.DocumentId.{DocumentId}
 use Rattle.element_tree.specs.declared.node.NodeId.{NodeId}
+use Rattle.element_tree.specs.Documents.{document_numbers}
 use Rattle.element_tree.specs.Links.{number}
 use Rattle.px_units.specs.declared.Rect.{Rect}
 use Rattle.px_units.specs.declared.BoxKind.TheVariants.{Border}
@@ -43,9 +45,15 @@ pub by_number : (g : ℕ → BoxLine) (nodes : List NodeId) → map (λ (node : 
 by_number g [] = refl
 by_number g (node ∷ nodes) = ap (λ lines. g (node.0) ∷ lines) (by_number g nodes)
 
-pub whole_list : (world : World) (items documents : List ℕ) (i : ℕ) (now : List BoxLine) → length items ≤ i → items ≡ documents
-    → documents ≡ active_documents (world.tree)
-    → now ≡ flat_map (λ document. map (box_line world) (boxed_elements (shown_of world) document)) (take i items) → now ≡ box_list world
+by_document : (g : ℕ → List BoxLine) (documents : List DocumentId) → flat_map (λ (document : DocumentId). g document.0) documents ≡ flat_map g (document_numbers documents)
+by_document g [] = refl
+by_document g (document ∷ documents) = ap (λ lines. g document.0 ++ lines) (by_document g documents)
+
+pub whole_list : (world : World) (items documents : List DocumentId) (i : ℕ) (now : List BoxLine) → length items ≤ i → items ≡ documents
+    → document_numbers documents ≡ active_documents (world.tree)
+    → now ≡ flat_map (λ (document : DocumentId). map (box_line world) (boxed_elements (shown_of world) document.0)) (take i items) → now ≡ box_list world
 unfolding box_list
 whole_list world items documents i now past same active so_far =
-    so_far ∙ ap (flat_map (λ document. map (box_line world) (boxed_elements (shown_of world) document))) (take_all i items past ∙ same ∙ active)
+    so_far ∙ ap (flat_map (λ (document : DocumentId). map (box_line world) (boxed_elements (shown_of world) document.0))) (take_all i items past ∙ same)
+    ∙ by_document (λ document. map (box_line world) (boxed_elements (shown_of world) document)) documents
+    ∙ ap (flat_map (λ document. map (box_line world) (boxed_elements (shown_of world) document))) active

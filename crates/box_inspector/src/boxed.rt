@@ -8,7 +8,7 @@ ghost use Rattle.page_documents.specs.Seen.{seen_tree};
 ghost use Rattle.page_tree.specs.Items.{carried_in};
 ghost use Rattle.box_inspector.specs.Boxes.{boxed_elements};
 
-use element_tree::{NodeId, Tree};
+use element_tree::{DocumentId, NodeId, Tree};
 use page_geometry::Shown;
 use page_tree::Element;
 use std::alloc::{AllocError, Global};
@@ -58,8 +58,12 @@ fn list_down(
 /// # Errors
 ///
 /// Where there is no memory.
-pub fn elements(alloc: Global, shown: &Shown<'_>, document: u32) -> Result<Vec<NodeId>, AllocError>
-    ensures list { IfOk result (λ listed. map number listed.items ≡ boxed_elements shown.now document) }
+pub fn elements(
+    alloc: Global,
+    shown: &Shown<'_>,
+    document: DocumentId,
+) -> Result<Vec<NodeId>, AllocError>
+    ensures list { IfOk result (λ listed. map number listed.items ≡ boxed_elements shown.now document.0) }
     ensures boxed { IfOk result (λ listed. All (λ node. has_box shown.now node.0 ≡ true) listed.items) }
 {
     let page = shown.page();

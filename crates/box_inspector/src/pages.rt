@@ -9,7 +9,7 @@ ghost use Rattle.box_inspector.specs.Ranges.{BoxReaches};
 use crate::boxed::elements;
 use crate::lines::BoxLine;
 use crate::seen::{place, seen_part};
-use element_tree::NodeId;
+use element_tree::{DocumentId, NodeId};
 use event_tables::EventTarget;
 use page_geometry::Shown;
 use page_state::{Label, Page};
@@ -56,12 +56,12 @@ fn push_document(
     alloc: Global,
     page: &Page,
     shown: &Shown<'_>,
-    document: u32,
+    document: DocumentId,
     lines: &mut Vec<BoxLine>,
 ) -> Result<(), AllocError>
     requires shown { shown.now ≡ shown_of page.now.world }
     requires reach { All BoxReaches lines.old.items }
-    ensures pushed { OnOk result (lines.new.items ≡ lines.old.items ++ map (box_line page.now.world) (boxed_elements (shown_of page.now.world) document)) }
+    ensures pushed { OnOk result (lines.new.items ≡ lines.old.items ++ map (box_line page.now.world) (boxed_elements (shown_of page.now.world) document.0)) }
     ensures reach { OnOk result (All BoxReaches lines.new.items) }
 {
     let nodes = elements(alloc, shown, document)?;

@@ -11,12 +11,12 @@ ghost use Rattle.trace_text.specs.Ranges.{RectReaches};
 ghost use Rattle.box_inspector.specs.Boxes.{seen_part};
 
 use clip_chain::{Geometry, Spot, visible_rect};
-use element_tree::NodeId;
+use element_tree::{DocumentId, NodeId};
 use page_geometry::Shown;
 use px_units::{Rect, shift};
 
 /// The viewport of the top document.
-const SCREEN: Spot = Spot::View(0);
+const SCREEN: Spot = Spot::View(DocumentId(0));
 
 // A rectangle as it is in the viewport of an element's document.
 fn in_document(shown: &Shown<'_>, node: NodeId, part: Rect) -> Rect

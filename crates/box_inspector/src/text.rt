@@ -1,50 +1,15 @@
 //! The text of a box.
 
-ghost use Rattle.std.specs.Prelude.{◌≡◌, [], ◌∷◌, ◌++◌, IfSome, OnOk, OnErr};
-ghost use Rattle.word_model.specs.Numbers.{decimal};
-ghost use Rattle.px_units.specs.Texts.{pixel_text};
-ghost use Rattle.script_model.specs.TraceText.{rect_fields};
+ghost use Rattle.std.specs.Prelude.{◌≡◌, ◌++◌, IfSome, OnOk, OnErr};
 ghost use Rattle.trace_text.specs.Fields.{with_fields};
 ghost use Rattle.trace_text.specs.Ranges.{RectReaches};
 ghost use Rattle.box_inspector.specs.BoxText.{box_fields, box_text, seen_fields};
 ghost use Rattle.box_inspector.specs.Ranges.{BoxReaches};
 
 use crate::lines::BoxLine;
-use px_units::{Px, Rect, push_px};
+use px_units::Rect;
 use std::alloc::{AllocError, Global};
-use word_model::push_decimal;
-
-fn push_field(out: &mut Vec<u8>, field: &[u8]) -> Result<(), AllocError>
-    ensures { OnOk result (out.new.items ≡ with_fields out.old.items (field.now ∷ [])) }
-{
-    out.push(b' ')?;
-    out.extend_from_slice(field)
-}
-
-fn push_number(out: &mut Vec<u8>, number: u128) -> Result<(), AllocError>
-    ensures { OnOk result (out.new.items ≡ with_fields out.old.items (decimal number ∷ [])) }
-{
-    out.push(b' ')?;
-    push_decimal(out, number)
-}
-
-// A length in units.
-fn push_length(out: &mut Vec<u8>, units: i64) -> Result<(), AllocError>
-    ensures { OnOk result (out.new.items ≡ with_fields out.old.items (pixel_text units ∷ [])) }
-{
-    out.push(b' ')?;
-    push_px(out, Px(units))
-}
-
-fn push_rect(out: &mut Vec<u8>, rect: &Rect) -> Result<(), AllocError>
-    requires { RectReaches rect.now }
-    ensures { OnOk result (out.new.items ≡ with_fields out.old.items (rect_fields rect.now)) }
-{
-    push_length(out, rect.left)?;
-    push_length(out, rect.top)?;
-    push_length(out, rect.right - rect.left)?;
-    push_length(out, rect.bottom - rect.top)
-}
+use trace_text::{push_field, push_number, push_rect};
 
 // What is seen of a box.
 fn push_seen(out: &mut Vec<u8>, seen: &Option<Rect>) -> Result<(), AllocError>

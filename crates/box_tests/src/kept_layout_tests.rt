@@ -1,26 +1,26 @@
-//! Kept boxes and places beside those computed anew, through random edits of a tree with positions.
+//! Places of kept boxes through random edits of a tree with positions, with the sums that the reference program gives; and kept boxes of
+//! a tree with many elements and of a deep one.
 
 ghost use Rattle.std.specs.Prelude.{◌≡◌, ◌<◌, length, true, None};
 ghost use Rattle.element_tree.specs.Forest.{parent_of};
 
-use crate::anew::{Anew, Held};
-use crate::elements::{Element, SCREEN};
-use block_layout::{Boxes, Inputs, ItemKind};
-use element_tree::{NodeId, Tree};
+use crate::elements::{Element, SCREEN, styled};
+use block_layout::{Boxes, Inputs, ItemKind, is_block, is_hidden};
+use element_tree::{NodeId, Tree, TreeFault};
 use kept_layout::{Kept, Offsets};
 use px_units::{BoxKind, Point, Size};
-use std::alloc::AllocError;
 use std::marker::Brand;
 use std::process::Abort;
 use std::sync::ledger::{Blank, Ledger};
 use std::test::Fail;
 use step_count::Steps;
 
+const ROOT: NodeId = NodeId(0);
+
 const ELEMENTS: u32 = 500;
 
-const EDITS: u32 = 2000;
-
-const ROOT: NodeId = NodeId(0);
+/// Edits whose places are summed up together. The viewport is narrow for the last tenth of them.
+const ROUND: u32 = 100;
 
 const NARROW: Inputs = Inputs {
     width: 20480,
@@ -28,6 +28,38 @@ const NARROW: Inputs = Inputs {
     flow: true,
 };
 
+/// Where the random numbers begin: `ROUNDS` is of the edits that follow from it.
+const SEED: u64 = 20;
+
+/// Of each round how many boxes are seen, which is after each edit, and the sums of their left and top edges, as `layout.py` of
+/// `tools/reference` gives them through the same edits.
+const ROUNDS: [(u64, i64, i64); 20] = [
+    (39177, -12311816, 2011232424),
+    (33146, -6388680, 1595377880),
+    (31946, -3640904, 1432535856),
+    (30859, 2086181, 1329203347),
+    (24055, 3411955, 800259364),
+    (18056, 2870888, 420215810),
+    (16231, 2838486, 326452536),
+    (16022, 3373218, 389480446),
+    (15489, 4411476, 242179723),
+    (12803, 3771505, 168710724),
+    (12687, 4242877, 166842594),
+    (8362, 5824736, 86447922),
+    (5785, 3800737, 59206653),
+    (5055, 5369504, 46665812),
+    (4734, 3299438, 38616670),
+    (3887, 2382556, 40129280),
+    (4067, 2368394, 46620704),
+    (4354, 2779808, 59870766),
+    (4385, 2178248, 71634136),
+    (4100, 2335180, 70715300),
+];
+
+/// How many declarations there are to choose from.
+const CHOICES: u32 = 44;
+
+/// What an element may be told. What would leave few elements with a box, or all of them out of flow, is outweighed by its opposite.
 const DECLARATIONS: [(&str, &str); 44] = [
     ("width", "50%"),
     ("width", "120px"),
@@ -79,8 +111,6 @@ const DECLARATIONS: [(&str, &str); 44] = [
 #[derive(Drop)]
 struct Scrolled;
 
-const SCROLLED: Point = Point { left: 64, top: 128 };
-
 /// How far the viewport is scrolled.
 const VIEW: Point = Point {
     left: 320,
@@ -91,7 +121,31 @@ impl Offsets for Scrolled {
     ghost offset = { λ s n. (64, 128) };
 
     fn in_force(&self, _node: NodeId) -> Point {
-        SCROLLED
+        Point { left: 64, top: 128 }
+    }
+}
+
+/// How many boxes were seen, and the sums of their left and top edges.
+#[derive(Clone, Copy)]
+struct Sums {
+    boxes: u64,
+    left: i64,
+    top: i64,
+}
+
+impl Sums {
+    const ZERO: Sums = Sums {
+        boxes: 0,
+        left: 0,
+        top: 0,
+    };
+
+    fn with(self, place: Point) -> Sums {
+        Sums {
+            boxes: self.boxes.saturating_add(1),
+            left: self.left.saturating_add(place.left),
+            top: self.top.saturating_add(place.top),
+        }
     }
 }
 
@@ -114,6 +168,7 @@ impl Random {
     }
 }
 
+// Mostly blocks: each 17th element is an image, and each 23rd of the others a frame.
 fn kind_of(number: u32) -> ItemKind {
     if number % 17 == 16 {
         ItemKind::Image(Size {
@@ -127,7 +182,6 @@ fn kind_of(number: u32) -> ItemKind {
     }
 }
 
-// Marks the parent that a node has.
 fn mark_parent(tree: &Tree<Element>, kept: &mut Kept, node: NodeId) {
     if let Some(parent) = tree.parent(node) {
         kept.mark(tree, parent);
@@ -143,7 +197,7 @@ fn restyle(
 )
     requires { node.0 < length tree.old.nodes }
 {
-    let (property, value) = DECLARATIONS[random.below(44) as usize];
+    let (property, value) = DECLARATIONS[random.below(CHOICES) as usize];
     if node == ROOT && property == "display" {
         return;
     }
@@ -152,7 +206,27 @@ fn restyle(
     kept.mark(tree, node);
 }
 
-// Moves a node last into another, or before it, where that is allowed.
+// Moves a node last into another, or before it.
+fn insert(
+    rt: &impl Abort,
+    tree: &mut Tree<Element>,
+    node: NodeId,
+    other: NodeId,
+    before: bool,
+) -> Result<(), TreeFault>
+    requires node { node.0 < length tree.old.nodes }
+    requires other { other.0 < length tree.old.nodes }
+{
+    match tree.parent(other) {
+        Some(parent) if before => {
+            assert!(rt; tree.holds(parent));
+            tree.insert_before(parent, node, other)
+        }
+        _ => tree.append(other, node),
+    }
+}
+
+// Moves a node with its marks, unless it would come into itself.
 fn place(
     rt: &impl Abort,
     tree: &mut Tree<Element>,
@@ -165,16 +239,10 @@ fn place(
     requires other { other.0 < length tree.old.nodes }
 {
     mark_parent(tree, kept, node);
-    match tree.parent(other) {
-        Some(parent) if before => {
-            assert!(rt; tree.holds(parent));
-            let _answer = tree.insert_before(parent, node, other);
-        }
-        _ => {
-            let _answer = tree.append(other, node);
-        }
+    match insert(rt, tree, node, other, before) {
+        Ok(()) => mark_parent(tree, kept, node),
+        Err(fault) => assert!(rt; matches!(fault, TreeFault::Hierarchy)),
     }
-    mark_parent(tree, kept, node);
 }
 
 // One change of the tree, with its marks.
@@ -192,14 +260,7 @@ fn edit(rt: &impl Abort, random: &mut Random, tree: &mut Tree<Element>, kept: &m
     }
 }
 
-fn lay_out_for<L: Ledger>(
-    blank: Blank,
-    rt: &impl Abort,
-    kept: &mut Kept,
-    anew: &mut Anew,
-    tree: &Tree<Element>,
-    inputs: Inputs,
-)
+fn lay_out_for<L: Ledger>(blank: Blank, kept: &mut Kept, tree: &Tree<Element>, inputs: Inputs)
     requires name { blank.name ≡ L.name }
     requires parts { blank.parts ≡ L.parts }
     requires one_part { 0 < blank.parts }
@@ -209,66 +270,46 @@ fn lay_out_for<L: Ledger>(
 {
     let mut steps = Steps::<L>::new(blank);
     kept.refresh(tree, ROOT, inputs, &mut steps);
-    anew.find_all(rt, tree, ROOT, inputs, &mut steps);
 }
 
-// Computes the kept boxes that are due, and all boxes anew.
-fn lay_out(rt: &impl Abort, kept: &mut Kept, anew: &mut Anew, tree: &Tree<Element>, inputs: Inputs)
+// Computes the boxes that are due.
+fn lay_out(rt: &impl Abort, kept: &mut Kept, tree: &Tree<Element>, inputs: Inputs)
     requires { inputs.flow ≡ true }
 {
     assert!(rt; tree.holds(ROOT) && tree.parent(ROOT).is_none());
-    lay_out_for::<Brand>(Blank::new(1), rt, kept, anew, tree, inputs);
+    lay_out_for::<Brand>(Blank::new(1), kept, tree, inputs);
 }
 
-fn is_scrolled(rt: &impl Abort, tree: &Tree<Element>, node: NodeId) -> bool {
-    assert!(rt; tree.holds(node));
-    node != ROOT && tree.payload(node).scrolls()
-}
-
-// The place of a node by the definition's sum, from boxes computed anew.
-fn place_anew(rt: &impl Abort, tree: &Tree<Element>, anew: &Anew, flat: Point, by: Held) -> Point {
-    let mut place = flat;
-    let mut held = by;
+// Whether an element stands in the tree of the root element, under blocks that are displayed as it is itself.
+fn has_box(rt: &impl Abort, tree: &Tree<Element>, node: NodeId) -> bool {
+    let mut inner = node;
     for _ in 0..ELEMENTS {
-        let Held::Element(holder) = held else { break };
-        if is_scrolled(rt, tree, holder) {
-            place.left = place.left.saturating_sub(SCROLLED.left);
-            place.top = place.top.saturating_sub(SCROLLED.top);
+        assert!(rt; tree.holds(inner));
+        if is_hidden(tree, inner) {
+            return false;
         }
-        let Some(found) = anew.of(holder) else { break };
-        held = found.held;
+        let Some(parent) = tree.parent(inner) else {
+            break
+        };
+        assert!(rt; tree.holds(parent));
+        if !is_block(tree, parent) {
+            return false;
+        }
+        inner = parent;
     }
-    match held {
-        Held::Screen => place,
-        Held::Page | Held::Element(_) => Point {
-            left: place.left.saturating_sub(VIEW.left),
-            top: place.top.saturating_sub(VIEW.top),
-        },
-    }
+    inner == ROOT
 }
 
-fn compare(rt: &impl Abort, tree: &Tree<Element>, kept: &Kept, anew: &Anew, node: NodeId) -> bool {
-    if !tree.is_ancestor(ROOT, node) {
-        return false;
+// Adds the places of all boxes to sums.
+fn add_places(rt: &impl Abort, tree: &Tree<Element>, kept: &Kept, so_far: Sums) -> Sums {
+    let mut sums = so_far;
+    for number in 0..ELEMENTS {
+        let node = NodeId(number);
+        if has_box(rt, tree, node) {
+            sums = sums.with(kept.place_of(tree, node, VIEW, &Scrolled));
+        }
     }
-    let Some(found) = anew.of(node) else {
-        return false;
-    };
-    let own = found.own;
-    assert_eq!(rt; kept.box_of(node), Some(own));
-    assert_eq!(rt;
-        kept.size_of(node, BoxKind::Content),
-        own.size(BoxKind::Content)
-    );
-    assert_eq!(rt;
-        kept.size_of(node, BoxKind::Border),
-        own.size(BoxKind::Border)
-    );
-    assert_eq!(rt;
-        kept.place_of(tree, node, VIEW, &Scrolled),
-        place_anew(rt, tree, anew, found.flat, found.held)
-    );
-    true
+    sums
 }
 
 // A tree of all elements, each in one of a lower number.
@@ -285,55 +326,104 @@ fn plant(rt: &impl Abort, random: &mut Random, tree: &mut Tree<Element>) {
     }
 }
 
-fn make_room(kept: &mut Kept, anew: &mut Anew) -> Result<(), AllocError> {
-    kept.add(NodeId(ELEMENTS - 1))?;
-    anew.make_room(ELEMENTS)
-}
-
-// Compares all elements, and returns how many have a box.
-fn compare_all(rt: &impl Abort, tree: &Tree<Element>, kept: &Kept, anew: &Anew) -> u64 {
-    let mut boxes: u64 = 0;
-    for number in 0..ELEMENTS {
-        if compare(rt, tree, kept, anew, NodeId(number)) {
-            boxes = boxes.saturating_add(1);
-        }
-    }
-    boxes
-}
-
-// The viewport in a round: it is narrow in each tenth of a hundred.
-fn viewport(round: u32) -> Inputs
+fn viewport(edit: u32) -> Inputs
     ensures { result.flow ≡ true }
 {
-    if round % 100 < 90 { SCREEN } else { NARROW }
+    if edit < 90 { SCREEN } else { NARROW }
 }
 
-// Edits the tree, and compares after each edit; returns how many boxes were compared.
-fn follow(
+// Edits the tree, each time with a layout after it, and sums up the places of all boxes then.
+fn sum_round(
     rt: &impl Abort,
     random: &mut Random,
     tree: &mut Tree<Element>,
     kept: &mut Kept,
-    anew: &mut Anew,
-) -> u64 {
-    let mut boxes: u64 = 0;
-    for round in 0..EDITS {
+) -> Sums {
+    let mut seen = Sums::ZERO;
+    for number in 0..ROUND {
         edit(rt, random, tree, kept);
-        lay_out(rt, kept, anew, tree, viewport(round));
-        boxes = boxes.saturating_add(compare_all(rt, tree, kept, anew));
+        lay_out(rt, kept, tree, viewport(number));
+        seen = add_places(rt, tree, kept, seen);
     }
-    boxes
+    seen
 }
 
 #[test]
-fn kept_boxes_are_those_computed_anew(rt: HostRuntime) -> Result<(), Fail> {
-    let mut random = Random { state: 20 };
+fn places_are_those_of_the_reference(rt: HostRuntime) -> Result<(), Fail> {
+    let mut random = Random { state: SEED };
     let mut tree = Tree::new(rt.alloc(), ELEMENTS, 256);
     let mut kept = Kept::new(rt.alloc());
-    let mut anew = Anew::new(rt.alloc());
-    make_room(&mut kept, &mut anew)?;
+    kept.add(NodeId(ELEMENTS - 1))?;
     plant(&rt, &mut random, &mut tree);
-    let boxes = follow(&rt, &mut random, &mut tree, &mut kept, &mut anew);
-    assert!(rt; boxes > 20_000, "{boxes}");
+    for wanted in ROUNDS {
+        let seen = sum_round(&rt, &mut random, &mut tree, &mut kept);
+        assert_eq!(rt; (seen.boxes, seen.left, seen.top), wanted);
+    }
+    Ok(())
+}
+
+// Adds an element, as the last child of a parent unless that is itself.
+fn add(rt: &impl Abort, tree: &mut Tree<Element>, parent: NodeId, declaration: &str) {
+    match tree.add(styled(rt, ItemKind::Block, declaration)) {
+        Ok(node) => {
+            if node != parent {
+                assert!(rt; tree.holds(parent) && tree.holds(node));
+                assert!(rt; tree.append(parent, node).is_ok());
+            }
+        }
+        Err(_) => assert!(rt; false, "no node"),
+    }
+}
+
+fn see_content(rt: &impl Abort, kept: &Kept, node: NodeId, wanted: (i64, i64)) {
+    assert!(rt; kept.box_of(node).is_some());
+    let content = kept.size_of(node, BoxKind::Content);
+    assert_eq!(rt; (content.width, content.height), wanted);
+}
+
+fn see_place(rt: &impl Abort, tree: &Tree<Element>, kept: &Kept, node: NodeId, wanted: (i64, i64)) {
+    let place = kept.flat_place_of(tree, node);
+    assert_eq!(rt; (place.left, place.top), wanted);
+}
+
+// A root element with 19,999 lines.
+fn add_lines(rt: &impl Abort, tree: &mut Tree<Element>) {
+    add(rt, tree, ROOT, "padding:1px");
+    for _ in 1..20_000u32 {
+        add(rt, tree, ROOT, "height:1px");
+    }
+}
+
+#[test]
+fn many_elements_are_laid_out(rt: HostRuntime) -> Result<(), Fail> {
+    let mut wide = Tree::new(rt.alloc(), 20_000, 256);
+    let mut kept = Kept::new(rt.alloc());
+    let last = NodeId(19_999);
+    kept.add(last)?;
+    add_lines(&rt, &mut wide);
+    lay_out(&rt, &mut kept, &wide, SCREEN);
+    see_content(&rt, &kept, ROOT, (51072, 1279936)); // 798 by 19,999 pixels
+    see_place(&rt, &wide, &kept, last, (64, 1279936)); // one pixel below 19,998 lines
+    Ok(())
+}
+
+// A chain of 256 elements.
+fn add_chain(rt: &impl Abort, tree: &mut Tree<Element>) {
+    for number in 0..256u32 {
+        add(rt, tree, NodeId(number.saturating_sub(1)), "padding:1px");
+    }
+}
+
+#[test]
+fn deep_trees_are_laid_out(rt: HostRuntime) -> Result<(), Fail> {
+    let mut deep = Tree::new(rt.alloc(), 256, 256);
+    let mut kept = Kept::new(rt.alloc());
+    let inmost = NodeId(255);
+    kept.add(inmost)?;
+    add_chain(&rt, &mut deep);
+    lay_out(&rt, &mut kept, &deep, SCREEN);
+    see_content(&rt, &kept, ROOT, (51072, 32640)); // 798 by 510 pixels
+    see_content(&rt, &kept, inmost, (18432, 0)); // 800 pixels less 256 paddings on two sides
+    see_place(&rt, &deep, &kept, inmost, (16320, 16320)); // below and behind 255 paddings
     Ok(())
 }

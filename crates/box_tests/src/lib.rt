@@ -1,9 +1,7 @@
-//! The tests of the crates of trees and boxes, from `step_count` to `kept_layout`, a module for each, over what they offer in
+//! The tests of the crates of trees and boxes, from `number_map` to `kept_layout`, a module for each, over what they offer in
 //! public.
 #![tactic(auto)]
 
-#[cfg(test)]
-mod anew;
 #[cfg(test)]
 mod block_layout_tests;
 #[cfg(test)]
@@ -18,5 +16,3 @@ mod layout_model_tests;
 mod number_map_tests;
 #[cfg(test)]
 mod readme_examples;
-#[cfg(test)]
-mod step_count_tests;

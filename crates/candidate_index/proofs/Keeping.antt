@@ -2,7 +2,7 @@
 use Rattle.std.proofs.Common.{◌≡◌, ◌∙◌, ℕ, Option, Some, None, ap, refl, sym, unwrap_or, option_map, is_some}
 use Rattle.page_model.specs.World.{Root}
 use Rattle.clip_chain.specs.declared.spot.Spot.{Spot}
-use Rattle.clip_chain.specs.declared.spot.Spot.TheVariants.{View}
+use Rattle.clip_chain.specs.Worlds.{view_spot}
 use Rattle.clip_chain.specs.Scenes.{Scene}
 use Rattle.kept_clips.specs.declared.pair.Pair.{Pair}
 use Rattle.kept_clips.specs.Held.{HeldClips, new_pair, pair_at, spots_of, spots_at}
@@ -12,17 +12,17 @@ use Rattle.candidate_index.specs.declared.scene.Standing.TheVariants.{Apart, NoB
 use Rattle.candidate_index.specs.Registrations.{IfChained, HasClip}
 
 abbrev no_spots : Spot × Spot
-no_spots = (View 0, View 0)
+no_spots = (view_spot 0, view_spot 0)
 
 there : (o : Option Pair) → is_some (option_map spots_of o) ≡ is_some o
 there None = refl
 there (Some p) = refl
 
-root_of : (o : Option Pair) → (unwrap_or (option_map spots_of o) no_spots).0 ≡ (unwrap_or o (new_pair (View 0) (View 0))).root
+root_of : (o : Option Pair) → (unwrap_or (option_map spots_of o) no_spots).0 ≡ (unwrap_or o (new_pair (view_spot 0) (view_spot 0))).root
 root_of None = refl
 root_of (Some p) = refl
 
-target_of_pair : (o : Option Pair) → (unwrap_or (option_map spots_of o) no_spots).1 ≡ (unwrap_or o (new_pair (View 0) (View 0))).of
+target_of_pair : (o : Option Pair) → (unwrap_or (option_map spots_of o) no_spots).1 ≡ (unwrap_or o (new_pair (view_spot 0) (view_spot 0))).of
 target_of_pair None = refl
 target_of_pair (Some p) = refl
 

@@ -59,7 +59,7 @@ fn is_same_sight(one: Sight, other: Sight) -> bool
 }
 
 impl Basis {
-    // Whether the same is found from the other one.
+    // Whether another basis gives the same finding.
     pub(crate) fn is_same(&self, other: &Basis) -> bool
         ensures { result ≡ is_same_basis self.now other.now }
     {

@@ -21,7 +21,7 @@ ghost use Rattle.candidate_index.specs.Asked.{asked_if, steps_if, asked_for, ste
 
 use crate::{Basis, Scene, Sight, Standing};
 use clip_chain::{Geometry, Spot, root_rect};
-use element_tree::NodeId;
+use element_tree::{DocumentId, NodeId};
 use intersection_observer::{Finding, RegistrationId, Root, Watchers};
 use kept_clips::{Clip, Clips};
 use px_units::{Rect, meet};
@@ -36,12 +36,12 @@ const NO_RECT: Rect = Rect {
     bottom: 0,
 };
 
-// The implicit root is the viewport of the top document.
-pub(crate) fn spot_of_root(root: Root) -> Spot
+/// The spot of a root (Intersection Observer, 2.2): the implicit one is the viewport of the top document.
+pub fn spot_of_root(root: Root) -> Spot
     ensures { result ≡ spot_of_root (seen_root root) }
 {
     match root {
-        Root::Implicit => Spot::View(0),
+        Root::Implicit => Spot::View(DocumentId(0)),
         Root::Document(document) => Spot::View(document),
         Root::Node(node) => Spot::Node(node),
     }
@@ -132,7 +132,7 @@ fn cut_to(bounds: Rect, limits: Rect, clip: Clip) -> Option<Rect>
     }
 }
 
-// What is found of a target of whose box so much is seen.
+// What is found of a target, by the part of its box that is seen.
 fn seen(thresholds: &Thresholds, bounds: Rect, cut: Option<Rect>, limits: Rect) -> Finding
     requires bounds { IsBounds bounds }
     requires inside { IfSome cut (LiesIn bounds) }

@@ -37,7 +37,7 @@ pub struct Kept {
 /// A clause sees this by serial numbers.
 ///
 /// The pair of a registration in `Clips` has the registration's serial number. Its two spots are that of its observer's root,
-/// which for the implicit root is `View(0)`, and that of its target.
+/// which for the implicit root is the `View` of the top document, and that of its target.
 ///
 /// What is kept of a registration was found from its basis by its observer's thresholds (`AreFound`), which each call keeps so.
 #[derive(Drop)]
@@ -62,7 +62,7 @@ impl Model for Index {
 }
 
 impl Index {
-    /// No registrations, which take no memory yet.
+    /// No registrations; it takes no memory yet.
     pub fn new(alloc: Global) -> Index
         ensures empty { result ≡ finite.empty }
         ensures found { (watchers : IntersectionObservers) → AreFound watchers result }
@@ -154,7 +154,7 @@ impl Index {
         Ok(stale)
     }
 
-    // Puts a registration last on a list if it is stale, for which there is room.
+    // Pushes a registration onto a list that has room for it, if it is stale.
     fn look<S: Scene, L: Ledger>(
         &self,
         scene: &S,

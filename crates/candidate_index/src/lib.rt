@@ -12,6 +12,7 @@ mod laws;
 mod scene;
 
 pub use basis::{Basis, Sight};
+pub use finding::spot_of_root;
 pub use index::{Index, Kept};
 pub use laws::{findings_are_those_of_any_world, what_is_not_stale_is_found_as_it_was};
 pub use scene::{Scene, Standing};

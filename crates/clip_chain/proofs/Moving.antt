@@ -13,11 +13,11 @@ use Rattle.clip_chain.specs.Chains.{Leads, IsAbove}
 
 pub is_itself : (spot : Spot) → is_spot spot spot ≡ true
 is_itself (Node a) = eq-eqb a.0 a.0 refl
-is_itself (View a) = eq-eqb a a refl
+is_itself (View a) = eq-eqb a.0 a.0 refl
 
 pub is_same : (a b : Spot) → is_spot a b ≡ true → b ≡ a
 is_same (Node a) (Node b) e = ap (λ n. Node (record { 0 = n })) (eqb-true b.0 a.0 e)
-is_same (View a) (View b) e = ap View (eqb-true b a e)
+is_same (View a) (View b) e = ap (λ n. View (record { 0 = n })) (eqb-true b.0 a.0 e)
 is_same (Node a) (View b) e = absurd (false≢true e)
 is_same (View a) (Node b) e = absurd (false≢true e)
 

@@ -44,7 +44,7 @@ same_number a b e = grind arith
 -- the number of an element or a document
 abbrev number : Spot → ℕ
 number (Node node) = node.0
-number (View document) = document
+number (View document) = document.0
 
 root_found : (root : Root) (container : Container) → spot_of container ≡ spot_of_root root → is_root root container ≡ true
 root_found ImplicitRoot (InDocument document) e = same_number document 0 (ap number e)

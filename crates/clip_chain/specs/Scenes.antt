@@ -17,7 +17,7 @@ pub record Scene : Type 0 where
 
 abbrev pub is_spot : Spot → Spot → Bool
 is_spot (Node a) (Node b) = b.0 == a.0
-is_spot (View a) (View b) = b == a
+is_spot (View a) (View b) = b.0 == a.0
 is_spot a b = false
 
 -- the same as an observer with this root and these scroll margins sees it: they move the clip of each scroll container but the root

@@ -13,18 +13,21 @@ use Rattle.clip_chain.specs.Scenes.{Scene, through}
 abbrev pub element_spot : ℕ → Spot
 element_spot element = Node (record { 0 = element })
 
+abbrev pub view_spot : ℕ → Spot
+view_spot document = View (record { 0 = document })
+
 abbrev pub spot_of : Container → Spot
 spot_of (InElement element) = element_spot element
-spot_of (InDocument document) = View document
+spot_of (InDocument document) = view_spot document
 
 abbrev pub container_at : Spot → Container
 container_at (Node node) = InElement (node.0)
-container_at (View document) = InDocument document
+container_at (View document) = InDocument (document.0)
 
 -- the implicit root is the viewport of the top document
 abbrev pub spot_of_root : Root → Spot
-spot_of_root ImplicitRoot = View 0
-spot_of_root (DocumentRoot document) = View document
+spot_of_root ImplicitRoot = view_spot 0
+spot_of_root (DocumentRoot document) = view_spot document
 spot_of_root (ElementRoot element) = element_spot element
 
 abbrev pub has_box_at : Shown → Spot → Bool
@@ -33,7 +36,7 @@ has_box_at shown (View document) = true
 
 abbrev pub bounds_at : Shown → Spot → Rect
 bounds_at shown (Node node) = cond (has_box_at shown (Node node)) (border_rect shown (node.0)) zero_rect
-bounds_at shown (View document) = viewport_rect shown document
+bounds_at shown (View document) = viewport_rect shown (document.0)
 
 -- an element without a box stands in nothing and clips nothing, and its box is zero
 abbrev pub scene_of : Shown → Scene

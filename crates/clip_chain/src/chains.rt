@@ -28,7 +28,7 @@ pub fn reaches<G: Geometry>(geometry: &G, target: Spot, root: Spot) -> bool
 
 /// The root rectangle before a margin moves it (Intersection Observer, 2.2): the viewport of a document, the padding box of an
 /// element that clips, the border box of another, zeros for an element without a box. The implicit root is the viewport of
-/// the top document, `View(0)`. No memory.
+/// the top document, its `View`. No memory.
 ///
 /// Each edge lies between -2^48 and 2^48, the width between -2^42 and 2^42, unless scroll margins moved it.
 pub fn root_rect<G: Geometry>(geometry: &G, root: Spot) -> Rect
@@ -81,8 +81,9 @@ fn clipped_below<G: Geometry>(geometry: &G, target: Spot, root: Spot, first: Rec
     Some(common)
 }
 
-// The container of a spot, none where that is the root.
-fn container_below<G: Geometry>(geometry: &G, of: Spot, root: Spot) -> Option<Spot>
+/// The container of a spot, None where that is the root or there is none. So a chain is walked outwards from a spot up to its root. No
+/// memory.
+pub fn container_below<G: Geometry>(geometry: &G, of: Spot, root: Spot) -> Option<Spot>
     ensures next { IfSome result (λ next. ((G.scene geometry.now).container of ≡ Some next) × (¬ next ≡ root)) }
     ensures none { result ≡ None → ((G.scene geometry.now).container of ≡ None) ⊎ ((G.scene geometry.now).container of ≡ Some root) }
     ensures end { IfSome result (λ next. G.rank geometry.now next < G.rank geometry.now of) }

@@ -11,7 +11,7 @@ mod laws;
 mod spot;
 mod through;
 
-pub use chains::{reaches, root_rect, visible_rect};
+pub use chains::{container_below, reaches, root_rect, visible_rect};
 pub use geometry::{Geometry, Scrolls};
 pub use laws::{
     a_chain_goes_from_container_to_container, a_chain_is_the_only_one,

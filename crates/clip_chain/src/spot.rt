@@ -1,12 +1,12 @@
 //! What chains are made of.
 
-use element_tree::NodeId;
+use element_tree::{DocumentId, NodeId};
 
 /// An element, or the viewport of a document.
 #[derive(Clone, Copy, Debug, PartialEq, Eq)]
 pub enum Spot {
     /// An element.
     Node(NodeId),
-    /// The viewport of the document of this number.
-    View(u32),
+    /// The viewport of a document.
+    View(DocumentId),
 }

@@ -11,6 +11,7 @@ ghost use Rattle.depth_gather.specs.Deliveries.{turn_from, turn_of, active_at, e
 use crate::observation::entry_of;
 use crate::turns::next_turn;
 use crate::{ResizeEntry, ResizeList, Sizes};
+use element_tree::DocumentId;
 use resize_observer::{Observation, ObserverId, Observers};
 use std::alloc::{AllocError, Global};
 
@@ -33,12 +34,12 @@ pub fn next_delivery<Z: Sizes>(
     alloc: Global,
     observers: &mut Observers,
     sizes: &Z,
-    document: u32,
+    document: DocumentId,
     place: usize,
 ) -> Result<Option<Delivery>, AllocError>
-    ensures turn { IfOk result (λ next. option_map turn_of next ≡ turn_from document place observers.old.part) }
+    ensures turn { IfOk result (λ next. option_map turn_of next ≡ turn_from document.0 place observers.old.part) }
     ensures entries { IfOk result (λ next. IfSome next (λ it. it.entries ≡ entries_in (Z.sight sizes.now) (active_at observers.old.part it.observer.0))) }
-    ensures reported { OnOk result (observers.new ≡ record observers.old { part = reporting_turn (Z.sight sizes.now) (turn_from document place observers.old.part) (observers.old.part) }) }
+    ensures reported { OnOk result (observers.new ≡ record observers.old { part = reporting_turn (Z.sight sizes.now) (turn_from document.0 place observers.old.part) (observers.old.part) }) }
     ensures same { OnErr result (observers.new ≡ observers.old) }
     ensures made { IfOk result (λ next. IfSome next (λ it. it.observer.0 < length observers.old.part.made)) }
     ensures some { IfOk result (λ next. IfSome next (λ it. 0 < length it.entries)) }

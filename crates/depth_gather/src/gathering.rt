@@ -8,14 +8,20 @@ ghost use Rattle.depth_gather.specs.Gathering.{gathered_first, active_count};
 
 use crate::Sizes;
 use crate::observation::has_changed;
+use element_tree::DocumentId;
 use resize_observer::{ObserverId, Observers};
 
 /// Gathers the active observations of a document (Resize Observer, 3.4: gather active observations at depth), and answers
 /// how many there are: each observer of the document holds as active those of its targets whose size isn't the last
 /// reported one and which stand deeper than `depth`, and as skipped those whose size isn't and which don't. No memory.
-pub fn gather<Z: Sizes>(observers: &mut Observers, sizes: &Z, document: u32, depth: u32) -> u32
-    ensures gathered { observers.new ≡ record observers.old { part = gathering (Z.sight sizes.now) document depth (observers.old.part) } }
-    ensures number { result ≡ active_count document observers.new.part }
+pub fn gather<Z: Sizes>(
+    observers: &mut Observers,
+    sizes: &Z,
+    document: DocumentId,
+    depth: u32,
+) -> u32
+    ensures gathered { observers.new ≡ record observers.old { part = gathering (Z.sight sizes.now) document.0 depth (observers.old.part) } }
+    ensures number { result ≡ active_count document.0 observers.new.part }
     ensures count { length observers.new.part.made ≡ length observers.old.part.made }
 {
     gather_all(observers, sizes, document, depth);
@@ -23,8 +29,8 @@ pub fn gather<Z: Sizes>(observers: &mut Observers, sizes: &Z, document: u32, dep
 }
 
 // Each observer of the document gathers.
-fn gather_all<Z: Sizes>(observers: &mut Observers, sizes: &Z, document: u32, depth: u32)
-    ensures gathered { observers.new ≡ record observers.old { part = gathering (Z.sight sizes.now) document depth (observers.old.part) } }
+fn gather_all<Z: Sizes>(observers: &mut Observers, sizes: &Z, document: DocumentId, depth: u32)
+    ensures gathered { observers.new ≡ record observers.old { part = gathering (Z.sight sizes.now) document.0 depth (observers.old.part) } }
     ensures count { length observers.new.part.made ≡ length observers.old.part.made }
 {
     let mut place = 0;
@@ -36,9 +42,9 @@ fn gather_all<Z: Sizes>(observers: &mut Observers, sizes: &Z, document: u32, dep
 
 // How many observations are active in a document. They are no more than all observers hold, of which there are fewer than
 // 2^32.
-fn active_number(observers: &Observers, document: u32) -> u32
-    requires { active_count document observers.now.part ≤ resize_observations observers.now.part }
-    ensures { result ≡ active_count document observers.now.part }
+fn active_number(observers: &Observers, document: DocumentId) -> u32
+    requires { active_count document.0 observers.now.part ≤ resize_observations observers.now.part }
+    ensures { result ≡ active_count document.0 observers.now.part }
 {
     let mut number = 0;
     let mut place = 0;

@@ -5,6 +5,7 @@ ghost use Rattle.page_model.specs.Gathering.{has_skipped};
 ghost use Rattle.depth_gather.specs.Deliveries.{turn_from, active_at};
 ghost use Rattle.depth_gather.specs.Turning.{found_turn};
 
+use element_tree::DocumentId;
 use resize_observer::{ObserverId, Observers};
 
 // An observer with something active, and the place behind it.
@@ -15,8 +16,8 @@ pub(crate) struct Found {
 }
 
 // The first observer of the document from this place on with something active.
-pub(crate) fn next_turn(observers: &Observers, document: u32, place: usize) -> Option<Found>
-    ensures value { option_map found_turn result ≡ turn_from document place observers.now.part }
+pub(crate) fn next_turn(observers: &Observers, document: DocumentId, place: usize) -> Option<Found>
+    ensures value { option_map found_turn result ≡ turn_from document.0 place observers.now.part }
     ensures made { IfSome result (λ found. found.observer.0 < length observers.now.part.made) }
     ensures some { IfSome result (λ found. 0 < length (active_at observers.now.part found.observer.0)) }
 {
@@ -34,8 +35,8 @@ pub(crate) fn next_turn(observers: &Observers, document: u32, place: usize) -> O
 }
 
 /// Whether something is skipped in the document (Resize Observer, 3.4: has skipped observations). No memory.
-pub fn has_skipped(observers: &Observers, document: u32) -> bool
-    ensures { result ≡ has_skipped document observers.now.part }
+pub fn has_skipped(observers: &Observers, document: DocumentId) -> bool
+    ensures { result ≡ has_skipped document.0 observers.now.part }
 {
     let mut place = 0;
     while let Some(observer) = observers.of_document(document, place) {

@@ -3,3 +3,4 @@ pub mod Edits
 pub mod Links
 pub mod Answers
 pub mod Lends
+pub mod Documents

@@ -6,18 +6,18 @@ use thiserror::Error;
 #[derive(Debug, Drop, Error)]
 pub enum TreeFault {
     /// The node is the parent that it was to be put under, or an ancestor of it.
-    #[error("Hierarchy")]
+    #[error("the node is the parent or an ancestor of it")]
     Hierarchy,
     /// The named sibling isn't a child of the parent.
-    #[error("NotAChild")]
+    #[error("the sibling is not a child of the parent")]
     NotAChild,
     /// As many nodes as the tree may have were added.
-    #[error("NodeLimit")]
+    #[error("as many nodes as there may be were added")]
     NodeLimit,
     /// The node's subtree would reach too deep below the parent.
-    #[error("DepthLimit")]
+    #[error("the subtree would reach too deep")]
     DepthLimit,
     /// There is no memory.
-    #[error("Memory")]
+    #[error("out of memory")]
     Memory,
 }

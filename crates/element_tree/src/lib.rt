@@ -1,11 +1,13 @@
 //! An ordered tree with DOM's rules of insertion.
 #![tactic(auto)]
 
+mod document;
 mod fault;
 mod links;
 mod node;
 mod tree;
 
+pub use document::DocumentId;
 pub use fault::TreeFault;
 pub use node::NodeId;
 pub use tree::Tree;

@@ -17,18 +17,18 @@ use Rattle.event_tables.specs.Entries.{Entry}
 
 abbrev pub seen_target : EventTarget → model.EventTarget
 seen_target (target.Node element) = model.ElementTarget element.0
-seen_target (target.Document number) = model.DocumentTarget number
-seen_target (target.Window number) = model.WindowTarget number
+seen_target (target.Document document) = model.DocumentTarget document.0
+seen_target (target.Window document) = model.WindowTarget document.0
 seen_target (target.Query number) = model.QueryTarget number
 
 abbrev pub seen_task : Task → model.Task
-seen_task (task.Notify number) = model.Notify number
-seen_task (task.Posted number handler) = model.Posted number handler.0
+seen_task (task.Notify document) = model.Notify document.0
+seen_task (task.Posted document handler) = model.Posted document.0 handler.0
 
 abbrev pub seen_key : TargetKey → model.EventTarget
 seen_key (key.Node element) = model.ElementTarget element
-seen_key (key.Document number) = model.DocumentTarget number
-seen_key (key.Window number) = model.WindowTarget number
+seen_key (key.Document document) = model.DocumentTarget document.0
+seen_key (key.Window document) = model.WindowTarget document.0
 seen_key (key.Query number) = model.QueryTarget number
 
 -- a listener that was copied
@@ -38,21 +38,21 @@ seen_copy it =
 
 -- a callback that was copied: a frame callback, or what a timer has but for its due time
 abbrev pub seen_callback : Callback → model.FrameCallback
-seen_callback it = record { serial = it.serial; document = it.key.document; key = it.key.key; handler = it.handler.0 }
+seen_callback it = record { serial = it.serial; document = it.key.document.0; key = it.key.key; handler = it.handler.0 }
 
 -- an entry of each table
 abbrev pub seen_frame_callback : Entry DocumentKey HandlerId → model.FrameCallback
-seen_frame_callback it = record { serial = it.0; document = it.1.0.document; key = it.1.0.key; handler = it.1.1.0 }
+seen_frame_callback it = record { serial = it.0; document = it.1.0.document.0; key = it.1.0.key; handler = it.1.1.0 }
 
 abbrev pub seen_timer : Entry DocumentKey Timer → model.Timer
 seen_timer it =
-    record { serial = it.0; document = it.1.0.document; key = it.1.0.key; due = it.1.1.due; handler = it.1.1.handler.0 }
+    record { serial = it.0; document = it.1.0.document.0; key = it.1.0.key; due = it.1.1.due; handler = it.1.1.handler.0 }
 
 -- a timer that was copied
 abbrev pub seen_due_timer : DueTimer → model.Timer
 seen_due_timer it = record {
   serial = it.callback.serial;
-  document = it.callback.key.document;
+  document = it.callback.key.document.0;
   key = it.callback.key.key;
   due = it.due;
   handler = it.callback.handler.0;

@@ -6,12 +6,12 @@ use thiserror::Error;
 #[derive(Clone, Copy, Debug, PartialEq, Eq, Error)]
 pub enum TableFault {
     /// The document has the key already.
-    #[error("Taken")]
+    #[error("the document has the key already")]
     Taken,
     /// As many as there may be are there.
-    #[error("Limit")]
+    #[error("as many as there may be are there")]
     Limit,
     /// There is no memory.
-    #[error("Memory")]
+    #[error("out of memory")]
     Memory,
 }

@@ -4,6 +4,7 @@ ghost use Rattle.std.specs.Prelude.{◌≡◌, [], ◌∷◌, ◌++◌, OnOk, Ma
 ghost use Rattle.event_tables.specs.Seen.{seen_callback};
 
 use crate::HandlerId;
+use element_tree::DocumentId;
 use std::alloc::{AllocError, Global};
 use std::collections::VecDeque;
 use std::marker::Model;
@@ -12,7 +13,7 @@ use text_io::Name;
 /// A key of a document.
 #[derive(Clone, Copy, PartialEq, Eq, Hash)]
 pub(crate) struct DocumentKey {
-    pub(crate) document: u32,
+    pub(crate) document: DocumentId,
     pub(crate) key: Name,
 }
 

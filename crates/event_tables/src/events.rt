@@ -5,15 +5,15 @@ ghost use Rattle.page_model.specs.Listeners.{is_same_target, is_same_event};
 ghost use Rattle.page_model.specs.Tasks.{is_posted};
 ghost use Rattle.event_tables.specs.Seen.{seen_target, seen_key, seen_task};
 
-use element_tree::NodeId;
+use element_tree::{DocumentId, NodeId};
 use text_io::EventKind;
 
 /// What an event is fired at: an element, a document, a document's window, or a media query list.
 #[derive(Clone, Copy, PartialEq, Eq, Debug)]
 pub enum EventTarget {
     Node(NodeId),
-    Document(u32),
-    Window(u32),
+    Document(DocumentId),
+    Window(DocumentId),
     Query(u32),
 }
 
@@ -24,16 +24,16 @@ pub struct HandlerId(pub u32);
 /// A task that waits: to notify the intersection observers of a document, or to call a handler for a document.
 #[derive(Clone, Copy, PartialEq, Eq, Debug)]
 pub enum Task {
-    Notify(u32),
-    Posted(u32, HandlerId),
+    Notify(DocumentId),
+    Posted(DocumentId, HandlerId),
 }
 
 /// An event target as a part of a key.
 #[derive(Clone, Copy, PartialEq, Eq, Hash)]
 pub(crate) enum TargetKey {
     Node(u32),
-    Document(u32),
-    Window(u32),
+    Document(DocumentId),
+    Window(DocumentId),
     Query(u32),
 }
 
@@ -55,8 +55,8 @@ pub(crate) fn is_same_target(one: EventTarget, other: TargetKey) -> bool
 {
     match (one, other) {
         (EventTarget::Node(one), TargetKey::Node(other)) => one.0 == other,
-        (EventTarget::Document(one), TargetKey::Document(other)) => one == other,
-        (EventTarget::Window(one), TargetKey::Window(other)) => one == other,
+        (EventTarget::Document(one), TargetKey::Document(other)) => one.0 == other.0,
+        (EventTarget::Window(one), TargetKey::Window(other)) => one.0 == other.0,
         (EventTarget::Query(one), TargetKey::Query(other)) => one == other,
         _ => false,
     }

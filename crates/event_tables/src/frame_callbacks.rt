@@ -13,6 +13,7 @@ ghost use Rattle.event_tables.specs.FrameCallbacks.{once_handed, told};
 use crate::callbacks::{Callback, DocumentKey};
 use crate::entries::Entries;
 use crate::{Batch, HandlerId, TableFault};
+use element_tree::DocumentId;
 use std::alloc::{AllocError, Global};
 use std::collections::BTreeMap;
 use std::marker::Model;
@@ -55,8 +56,8 @@ impl FrameCallbacks {
     }
 
     /// Whether a document has a frame callback under a key.
-    pub fn is_there(&self, document: u32, key: Name) -> bool
-        ensures { result ≡ is_frame_requested document key self.now.part }
+    pub fn is_there(&self, document: DocumentId, key: Name) -> bool
+        ensures { result ≡ is_frame_requested document.0 key self.now.part }
     {
         self.entries.has_key(DocumentKey { document, key })
     }
@@ -67,13 +68,13 @@ impl FrameCallbacks {
     /// there is none. Fewer than 2^64 - 1 serial numbers were given.
     pub fn request(
         &mut self,
-        document: u32,
+        document: DocumentId,
         key: Name,
         handler: HandlerId,
     ) -> Result<(), TableFault>
         requires { self.old.part.given < 2 ^ 64 - 1 }
-        ensures answer { Enters result (is_frame_requested document key self.old.part) (has_room self.old) }
-        ensures requested { OnOk result (self.new ≡ record self.old { part = with_frame_callback document key handler.0 (self.old.part) }) }
+        ensures answer { Enters result (is_frame_requested document.0 key self.old.part) (has_room self.old) }
+        ensures requested { OnOk result (self.new ≡ record self.old { part = with_frame_callback document.0 key handler.0 (self.old.part) }) }
         ensures same { OnErr result (self.new ≡ self.old) }
         ensures given { self.new.part.given ≤ self.old.part.given + 1 }
     {
@@ -82,17 +83,17 @@ impl FrameCallbacks {
 
     /// Cancels the frame callback of a document under a key. The answer is false, and nothing changes, exactly where there
     /// is none.
-    pub fn cancel(&mut self, document: u32, key: Name) -> bool
-        ensures answer { result ≡ is_frame_requested document key self.old.part }
-        ensures cancelled { self.new ≡ record self.old { part = without_frame_callback document key (self.old.part) } }
+    pub fn cancel(&mut self, document: DocumentId, key: Name) -> bool
+        ensures answer { result ≡ is_frame_requested document.0 key self.old.part }
+        ensures cancelled { self.new ≡ record self.old { part = without_frame_callback document.0 key (self.old.part) } }
         ensures same { result ≡ false → self.new ≡ self.old }
     {
         self.entries.remove(DocumentKey { document, key })
     }
 
     /// Copies the frame callbacks of a document as it begins to run them.
-    pub fn begin(&self, document: u32) -> Result<Batch, AllocError>
-        ensures { IfOk result (λ batch. batch ≡ frame_callbacks_of document self.now.part) }
+    pub fn begin(&self, document: DocumentId) -> Result<Batch, AllocError>
+        ensures { IfOk result (λ batch. batch ≡ frame_callbacks_of document.0 self.now.part) }
     {
         copies(self.entries.allocator(), self.entries.held(), document)
     }
@@ -143,13 +144,13 @@ impl FrameCallbacks {
 fn copies(
     alloc: Global,
     held: &BTreeMap<u64, (DocumentKey, HandlerId)>,
-    document: u32,
+    document: DocumentId,
 ) -> Result<Batch, AllocError>
-    ensures { IfOk result (λ batch. batch ≡ filter (λ (each : FrameCallback). each.document == document) (map seen_frame_callback held.now.entries)) }
+    ensures { IfOk result (λ batch. batch ≡ filter (λ (each : FrameCallback). each.document == document.0) (map seen_frame_callback held.now.entries)) }
 {
     let mut batch = Batch::new(alloc);
     for (serial, (key, handler)) in held {
-        if key.document == document {
+        if key.document.0 == document.0 {
             batch.push(Callback {
                 serial: *serial,
                 key: *key,

@@ -1,7 +1,8 @@
 -- Firing an event, and where it bubbles.
-use Rattle.std.proofs.Common.{◌≡◌, ℕ, refl}
+use Rattle.std.proofs.Common.{◌≡◌, refl}
 use Rattle.std.specs.Prelude.{◌∷◌, []}
 use Rattle.text_io.specs.declared.kinds.EventKind.{EventKind}
+use Rattle.element_tree.specs.declared.document.DocumentId.{DocumentId}
 use Rattle.text_io.specs.declared.kinds.EventKind.TheVariants as events
 use Rattle.script_model.specs.TraceLines.{FiredEvent, EventLine}
 use Rattle.page_model.specs.Callbacks.{Script, invoke, bubble, fire}
@@ -25,7 +26,7 @@ module _ (script : Script) (event : EventKind) (world : World) where
   other_event (aims.Window document) other = refl
   other_event (aims.Query query) other = refl
 
-  pub other_target : (target : EventTarget) → ((document : ℕ) → target ≡ aims.Document document → ⊥) → bubble script (seen_target target) event world ≡ silent world
+  pub other_target : (target : EventTarget) → ((document : DocumentId) → target ≡ aims.Document document → ⊥) → bubble script (seen_target target) event world ≡ silent world
   other_target (aims.Node element) other = refl
   other_target (aims.Document document) other = absurd (other document refl)
   other_target (aims.Window document) other = refl

@@ -2,6 +2,8 @@
 use Rattle.std.proofs.Common.{◌≡◌, ℕ, ◌+◌, ◌<◌, ◌≤◌, true, false, List, [], ◌∷◌, length, drop, get_or, Option, refl, ap, sym}
 use Rattle.std.proofs.lemmas.List.{get_or_default}
 use Rattle.std.specs.Prelude.{Ok, Err}
+use Rattle.element_tree.specs.declared.document.DocumentId.{DocumentId}
+use Rattle.element_tree.specs.Documents.{document_number, document_numbers}
 use Rattle.page_model.specs.Callbacks.{Script, while_active}
 use Rattle.page_model.specs.Documents.{active_documents, is_active}
 use Rattle.page_model.specs.Runs.{Said, ◌followed_by◌, for_each, only_if, silent}
@@ -22,6 +24,13 @@ over script documents part = for_each (λ (document : ℕ). while_active documen
 
 abbrev pub all_parts : List Part
 all_parts = Resizes ∷ Scrolls ∷ Media ∷ Frames ∷ ResizeLoop ∷ Intersections ∷ []
+
+-- the same over documents by their names
+abbrev pub over_each : Script → List DocumentId → Part → World → Said World
+over_each script documents part = for_each (λ (document : DocumentId). while_active document.0 (part_of script part document.0)) documents
+
+pub over_same : (script : Script) (documents : List DocumentId) (part : Part) (world : World) → over_each script documents part world ≡ over script (document_numbers documents) part world
+over_same script documents part world = each_mapped (λ (document : ℕ). while_active document (part_of script part document)) document_number documents world
 
 -- an update is all the parts
 pub update_all : (script : Script) (world : World) → update_rendering script world ≡ for_each (over script (active_documents (world.tree))) all_parts world

@@ -12,6 +12,7 @@ ghost use Rattle.page_model.specs.Names.{document_text};
 ghost use Rattle.page_model.specs.Runs.{say, ◌followed_by◌};
 ghost use Rattle.page_model.specs.Ticks.{frame_steps};
 
+use element_tree::DocumentId;
 use event_tables::{EventTarget, HandlerId};
 use handlers::{Entries, run_handler};
 use page_state::{Label, Page};
@@ -28,17 +29,17 @@ fn run_frame_callback<K: Sink, L: Ledger>(
     alloc: Global,
     page: &mut Page,
     script: &Script,
-    document: u32,
+    document: DocumentId,
     key: Name,
     handler: HandlerId,
     sink: &mut K,
     steps: &mut Steps<L>,
 ) -> Result<(), RunFault>
     requires ready { IsPrepared script.now.items page.old.world }
-    requires active { is_active page.old.world.tree document ≡ true }
+    requires active { is_active page.old.world.tree document.0 ≡ true }
     ensures says { Runs goes_on (λ _. page.new.world) result (K.taken sink.old) (K.taken sink.new) (K.faults sink.old) (K.faults sink.new)
-        (say (FrameLine (document_text (page.old.world.names) document) key ∷ []) (page.old.world)
-        followed_by call (handlers_in script.now.items) document (Some handler.0) NoEntries) }
+        (say (FrameLine (document_text (page.old.world.names) document.0) key ∷ []) (page.old.world)
+        followed_by call (handlers_in script.now.items) document.0 (Some handler.0) NoEntries) }
     ensures ready { IfOk result (λ _. IsPrepared script.now.items page.new.world) }
 {
     let name = page.label(Label::Target(EventTarget::Document(document)));
@@ -61,14 +62,14 @@ pub(crate) fn frame_steps<K: Sink, L: Ledger>(
     alloc: Global,
     page: &mut Page,
     script: &Script,
-    document: u32,
+    document: DocumentId,
     sink: &mut K,
     steps: &mut Steps<L>,
 ) -> Result<(), RunFault>
     requires ready { IsPrepared script.now.items page.old.world }
-    requires active { is_active page.old.world.tree document ≡ true }
+    requires active { is_active page.old.world.tree document.0 ≡ true }
     ensures says { Runs goes_on (λ _. page.new.world) result (K.taken sink.old) (K.taken sink.new) (K.faults sink.old) (K.faults sink.new)
-        (frame_steps (handlers_in script.now.items) document page.old.world) }
+        (frame_steps (handlers_in script.now.items) document.0 page.old.world) }
     ensures ready { IfOk result (λ _. IsPrepared script.now.items page.new.world) }
 {
     let Ok(mut batch) = page.begin_frames(document) else {

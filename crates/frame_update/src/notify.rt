@@ -9,6 +9,7 @@ ghost use Rattle.trace_runs.specs.Runs.{Runs};
 ghost use Rattle.frame_update.specs.Ready.{IsPrepared};
 ghost use Rattle.page_laws.specs.Ready.{with_first};
 
+use element_tree::DocumentId;
 use handlers::{Entries, run_handler};
 use intersection_observer::WatcherId;
 use page_state::{Label, Page};
@@ -51,13 +52,13 @@ pub(crate) fn notify<K: Sink, L: Ledger>(
     alloc: Global,
     page: &mut Page,
     script: &Script,
-    document: u32,
+    document: DocumentId,
     sink: &mut K,
     steps: &mut Steps<L>,
 ) -> Result<(), RunFault>
-    requires ready { IsPrepared script.now.items (with_first (Notify document) page.old.world) }
+    requires ready { IsPrepared script.now.items (with_first (Notify document.0) page.old.world) }
     ensures says { Runs goes_on (λ _. page.new.world) result (K.taken sink.old) (K.taken sink.new) (K.faults sink.old) (K.faults sink.new)
-        (notify (handlers_in script.now.items) document page.old.world) }
+        (notify (handlers_in script.now.items) document.0 page.old.world) }
     ensures ready { IfOk result (λ _. IsPrepared script.now.items page.new.world) }
 {
     if !page.is_active(document) {

@@ -21,6 +21,7 @@ use depth_gather::{
     Delivery, entries_are_those_of_a_broadcast, least_depth,
     something_is_active_where_it_is_counted,
 };
+use element_tree::DocumentId;
 use event_tables::EventTarget;
 use handlers::{Entries, run_handler};
 use loop_laws::resize_loops_come_to_rest;
@@ -48,7 +49,7 @@ fn call_observer<K: Sink, L: Ledger>(
     alloc: Global,
     page: &mut Page,
     script: &Script,
-    document: u32,
+    document: DocumentId,
     delivery: Delivery,
     sink: &mut K,
     steps: &mut Steps<L>,
@@ -58,7 +59,7 @@ fn call_observer<K: Sink, L: Ledger>(
     requires entries { AreEntriesIn page.old.world delivery.entries }
     requires lengths { AllByRecursion HasLengths delivery.entries }
     ensures says { Runs goes_on (λ _. page.new.world) result (K.taken sink.old) (K.taken sink.new) (K.faults sink.old) (K.faults sink.new)
-        (lifted (emptied document delivery.observer.0) (call (handlers_in script.now.items) document
+        (lifted (emptied document.0 delivery.observer.0) (call (handlers_in script.now.items) document.0
         (resize_observer_at page.old.world.resize_observers delivery.observer.0).handler (SizeEntries delivery.observer.0 (map seen_entry delivery.entries)) page.old.world)) }
     ensures ready { IfOk result (λ _. IsPrepared script.now.items page.new.world) }
 {
@@ -80,13 +81,13 @@ fn broadcast<K: Sink, L: Ledger>(
     alloc: Global,
     page: &mut Page,
     script: &Script,
-    document: u32,
+    document: DocumentId,
     sink: &mut K,
     steps: &mut Steps<L>,
 ) -> Result<Option<u32>, RunFault>
     requires ready { IsPrepared script.now.items page.old.world }
     ensures says { Runs goes_on (λ least. broadcast_at least page.new.world) result (K.taken sink.old) (K.taken sink.new) (K.faults sink.old) (K.faults sink.new)
-        (broadcast (handlers_in script.now.items) document page.old.world) }
+        (broadcast (handlers_in script.now.items) document.0 page.old.world) }
     ensures ready { IfOk result (λ _. IsPrepared script.now.items page.new.world) }
 {
     entries_are_those_of_a_broadcast();
@@ -109,12 +110,12 @@ fn broadcast<K: Sink, L: Ledger>(
 // Gathers the observations of a document at a depth. The answer is the depth where something is active then.
 fn gather<L: Ledger>(
     page: &mut Page,
-    document: u32,
+    document: DocumentId,
     depth: u32,
     steps: &mut Steps<L>,
 ) -> Option<u32>
-    ensures gathered { page.new ≡ record page.old { world = gather document depth (page.old.world); kept = page.new.kept } }
-    ensures active { result ≡ cond (has_active document page.new.world.resize_observers) (Some depth) None }
+    ensures gathered { page.new ≡ record page.old { world = gather document.0 depth (page.old.world); kept = page.new.kept } }
+    ensures active { result ≡ cond (has_active document.0 page.new.world.resize_observers) (Some depth) None }
 {
     something_is_active_where_it_is_counted();
     if page.gather(document, depth, steps) == 0 {
@@ -129,14 +130,14 @@ fn round<K: Sink, L: Ledger>(
     alloc: Global,
     page: &mut Page,
     script: &Script,
-    document: u32,
+    document: DocumentId,
     sink: &mut K,
     steps: &mut Steps<L>,
 ) -> Result<Option<u32>, RunFault>
     requires ready { IsPrepared script.now.items page.old.world }
     ensures says { Runs goes_on (λ _. page.new.world) result (K.taken sink.old) (K.taken sink.new) (K.faults sink.old) (K.faults sink.new)
-        (round (handlers_in script.now.items) document page.old.world) }
-    ensures depth { IfOk result (λ depth. depth ≡ cond (has_round document page.new.world) (Some (round_depth (handlers_in script.now.items) document page.old.world)) None) }
+        (round (handlers_in script.now.items) document.0 page.old.world) }
+    ensures depth { IfOk result (λ depth. depth ≡ cond (has_round document.0 page.new.world) (Some (round_depth (handlers_in script.now.items) document.0 page.old.world)) None) }
     ensures ready { IfOk result (λ _. IsPrepared script.now.items page.new.world) }
 {
     let least = broadcast(alloc, page, script, document, sink, steps)?;
@@ -155,13 +156,13 @@ fn report_skipped<K: Sink, L: Ledger>(
     alloc: Global,
     page: &mut Page,
     script: &Script,
-    document: u32,
+    document: DocumentId,
     sink: &mut K,
     steps: &mut Steps<L>,
 ) -> Result<(), RunFault>
     requires ready { IsPrepared script.now.items page.old.world }
     ensures says { Runs goes_on (λ _. page.new.world) result (K.taken sink.old) (K.taken sink.new) (K.faults sink.old) (K.faults sink.new)
-        (report_skipped (handlers_in script.now.items) document page.old.world) }
+        (report_skipped (handlers_in script.now.items) document.0 page.old.world) }
     ensures ready { IfOk result (λ _. IsPrepared script.now.items page.new.world) }
 {
     if !page.is_active(document) || !page.has_skipped(document) {
@@ -186,14 +187,14 @@ pub(crate) fn resize_loop<K: Sink, L: Ledger>(
     alloc: Global,
     page: &mut Page,
     script: &Script,
-    document: u32,
+    document: DocumentId,
     sink: &mut K,
     steps: &mut Steps<L>,
 ) -> Result<(), RunFault>
     requires ready { IsPrepared script.now.items page.old.world }
-    requires active { is_active page.old.world.tree document ≡ true }
+    requires active { is_active page.old.world.tree document.0 ≡ true }
     ensures says { Runs goes_on (λ _. page.new.world) result (K.taken sink.old) (K.taken sink.new) (K.faults sink.old) (K.faults sink.new)
-        (resize_loop (handlers_in script.now.items) document page.old.world) }
+        (resize_loop (handlers_in script.now.items) document.0 page.old.world) }
     ensures ready { IfOk result (λ _. IsPrepared script.now.items page.new.world) }
 {
     resize_loops_come_to_rest();

@@ -16,6 +16,7 @@ ghost use Rattle.scrolling.specs.Seen.{seen_target};
 ghost use Rattle.text_io.specs.declared.kinds.EventKind.TheVariants as events;
 
 use crate::events::fire;
+use element_tree::DocumentId;
 use event_tables::EventTarget;
 use page_state::{Change, Label, Page};
 use script_syntax::Script;
@@ -33,14 +34,14 @@ pub(crate) fn resize_steps<K: Sink, L: Ledger>(
     alloc: Global,
     page: &mut Page,
     script: &Script,
-    document: u32,
+    document: DocumentId,
     sink: &mut K,
     steps: &mut Steps<L>,
 ) -> Result<(), RunFault>
     requires ready { IsPrepared script.now.items page.old.world }
-    requires active { is_active page.old.world.tree document ≡ true }
+    requires active { is_active page.old.world.tree document.0 ≡ true }
     ensures says { Runs goes_on (λ _. page.new.world) result (K.taken sink.old) (K.taken sink.new) (K.faults sink.old) (K.faults sink.new)
-        (resize_steps (handlers_in script.now.items) document page.old.world) }
+        (resize_steps (handlers_in script.now.items) document.0 page.old.world) }
     ensures ready { IfOk result (λ _. IsPrepared script.now.items page.new.world) }
 {
     if !page.viewport_changed(document, steps) {
@@ -65,7 +66,7 @@ fn scroll_step<K: Sink, L: Ledger>(
     alloc: Global,
     page: &mut Page,
     script: &Script,
-    document: u32,
+    document: DocumentId,
     target: ScrollTarget,
     sink: &mut K,
     steps: &mut Steps<L>,
@@ -73,7 +74,7 @@ fn scroll_step<K: Sink, L: Ledger>(
     requires ready { IsPrepared script.now.items page.old.world }
     requires target { IsScrollIn (counts_of 0 page.old.world) (seen_target target) }
     ensures says { Runs goes_on (λ _. page.new.world) result (K.taken sink.old) (K.taken sink.new) (K.faults sink.old) (K.faults sink.new)
-        (while_active document (λ now. fire (handlers_in script.now.items) (FiredScroll (scrolled_text (now.names) (seen_target target))) (event_target_of (seen_target target)) events.Scroll now) page.old.world) }
+        (while_active document.0 (λ now. fire (handlers_in script.now.items) (FiredScroll (scrolled_text (now.names) (seen_target target))) (event_target_of (seen_target target)) events.Scroll now) page.old.world) }
     ensures ready { IfOk result (λ _. IsPrepared script.now.items page.new.world) }
 {
     if !page.is_active(document) {
@@ -102,13 +103,13 @@ pub(crate) fn scroll_steps<K: Sink, L: Ledger>(
     alloc: Global,
     page: &mut Page,
     script: &Script,
-    document: u32,
+    document: DocumentId,
     sink: &mut K,
     steps: &mut Steps<L>,
 ) -> Result<(), RunFault>
     requires ready { IsPrepared script.now.items page.old.world }
     ensures says { Runs goes_on (λ _. page.new.world) result (K.taken sink.old) (K.taken sink.new) (K.faults sink.old) (K.faults sink.new)
-        (scroll_steps (handlers_in script.now.items) document page.old.world) }
+        (scroll_steps (handlers_in script.now.items) document.0 page.old.world) }
     ensures ready { IfOk result (λ _. IsPrepared script.now.items page.new.world) }
 {
     let scrolled = page.take_scrolled(document);
@@ -153,14 +154,14 @@ pub(crate) fn media_steps<K: Sink, L: Ledger>(
     alloc: Global,
     page: &mut Page,
     script: &Script,
-    document: u32,
+    document: DocumentId,
     sink: &mut K,
     steps: &mut Steps<L>,
 ) -> Result<(), RunFault>
     requires ready { IsPrepared script.now.items page.old.world }
-    requires active { is_active page.old.world.tree document ≡ true }
+    requires active { is_active page.old.world.tree document.0 ≡ true }
     ensures says { Runs goes_on (λ _. page.new.world) result (K.taken sink.old) (K.taken sink.new) (K.faults sink.old) (K.faults sink.new)
-        (media_steps (handlers_in script.now.items) document page.old.world) }
+        (media_steps (handlers_in script.now.items) document.0 page.old.world) }
     ensures ready { IfOk result (λ _. IsPrepared script.now.items page.new.world) }
 {
     let mut place = 0;

@@ -12,6 +12,7 @@ ghost use Rattle.page_model.specs.World.{Posted};
 ghost use Rattle.event_tables.specs.Seen.{seen_task};
 
 use crate::notify::notify;
+use element_tree::DocumentId;
 use event_tables::{EventTarget, HandlerId, Task};
 use handlers::{Entries, run_handler};
 use loop_laws::runs_of_tasks_come_to_rest;
@@ -29,7 +30,7 @@ fn run_posted<K: Sink, L: Ledger>(
     alloc: Global,
     page: &mut Page,
     script: &Script,
-    document: u32,
+    document: DocumentId,
     handler: HandlerId,
     sink: &mut K,
     steps: &mut Steps<L>,
@@ -37,7 +38,7 @@ fn run_posted<K: Sink, L: Ledger>(
     requires ready { IsPrepared script.now.items page.old.world }
     requires handler { handler.0 < length (handlers_in script.now.items) }
     ensures says { Runs goes_on (λ _. page.new.world) result (K.taken sink.old) (K.taken sink.new) (K.faults sink.old) (K.faults sink.new)
-        (run_task (handlers_in script.now.items) (Posted document handler.0) page.old.world) }
+        (run_task (handlers_in script.now.items) (Posted document.0 handler.0) page.old.world) }
     ensures ready { IfOk result (λ _. IsPrepared script.now.items page.new.world) }
 {
     if !page.is_active(document) {

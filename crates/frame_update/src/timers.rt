@@ -11,6 +11,7 @@ ghost use Rattle.page_model.specs.Names.{document_text};
 ghost use Rattle.page_model.specs.Runs.{say, ◌followed_by◌};
 ghost use Rattle.page_model.specs.Ticks.{line_while_active, run_timers};
 
+use element_tree::DocumentId;
 use event_tables::{EventTarget, HandlerId};
 use handlers::{Entries, run_handler};
 use page_state::{Label, Page};
@@ -27,7 +28,7 @@ fn run_timer<K: Sink, L: Ledger>(
     alloc: Global,
     page: &mut Page,
     script: &Script,
-    document: u32,
+    document: DocumentId,
     key: Name,
     handler: HandlerId,
     sink: &mut K,
@@ -35,8 +36,8 @@ fn run_timer<K: Sink, L: Ledger>(
 ) -> Result<(), RunFault>
     requires ready { IsPrepared script.now.items page.old.world }
     ensures says { Runs goes_on (λ _. page.new.world) result (K.taken sink.old) (K.taken sink.new) (K.faults sink.old) (K.faults sink.new)
-        (say (line_while_active (page.old.world.tree) document (TimerLine (document_text (page.old.world.names) document) key)) (page.old.world)
-        followed_by call (handlers_in script.now.items) document (Some handler.0) NoEntries) }
+        (say (line_while_active (page.old.world.tree) document.0 (TimerLine (document_text (page.old.world.names) document.0) key)) (page.old.world)
+        followed_by call (handlers_in script.now.items) document.0 (Some handler.0) NoEntries) }
     ensures ready { IfOk result (λ _. IsPrepared script.now.items page.new.world) }
 {
     if !page.is_active(document) {

@@ -2,6 +2,7 @@
 
 ghost use Rattle.std.specs.Prelude.{◌≡◌, true, IfOk};
 ghost use Rattle.script_model.specs.Scripts.{handlers_in};
+ghost use Rattle.element_tree.specs.Documents.{document_numbers};
 ghost use Rattle.page_model.specs.Documents.{is_active};
 ghost use Rattle.page_model.specs.Callbacks.{while_active};
 ghost use Rattle.page_model.specs.Runs.{for_each};
@@ -14,6 +15,7 @@ ghost use Rattle.frame_update.specs.Ready.{IsPrepared};
 use crate::frames::frame_steps;
 use crate::rounds::resize_loop;
 use crate::steps::{media_steps, resize_steps, scroll_steps};
+use element_tree::DocumentId;
 use page_state::Page;
 use script_syntax::Script;
 use std::alloc::Global;
@@ -49,14 +51,14 @@ fn run_part<K: Sink, L: Ledger>(
     page: &mut Page,
     script: &Script,
     part: Part,
-    document: u32,
+    document: DocumentId,
     sink: &mut K,
     steps: &mut Steps<L>,
 ) -> Result<(), RunFault>
     requires ready { IsPrepared script.now.items page.old.world }
-    requires active { is_active page.old.world.tree document ≡ true }
+    requires active { is_active page.old.world.tree document.0 ≡ true }
     ensures says { Runs goes_on (λ _. page.new.world) result (K.taken sink.old) (K.taken sink.new) (K.faults sink.old) (K.faults sink.new)
-        (part_of (handlers_in script.now.items) part document page.old.world) }
+        (part_of (handlers_in script.now.items) part document.0 page.old.world) }
     ensures ready { IfOk result (λ _. IsPrepared script.now.items page.new.world) }
 {
     match part {
@@ -78,13 +80,13 @@ fn run_while_active<K: Sink, L: Ledger>(
     page: &mut Page,
     script: &Script,
     part: Part,
-    document: u32,
+    document: DocumentId,
     sink: &mut K,
     steps: &mut Steps<L>,
 ) -> Result<(), RunFault>
     requires ready { IsPrepared script.now.items page.old.world }
     ensures says { Runs goes_on (λ _. page.new.world) result (K.taken sink.old) (K.taken sink.new) (K.faults sink.old) (K.faults sink.new)
-        (while_active document (part_of (handlers_in script.now.items) part document) page.old.world) }
+        (while_active document.0 (part_of (handlers_in script.now.items) part document.0) page.old.world) }
     ensures ready { IfOk result (λ _. IsPrepared script.now.items page.new.world) }
 {
     if !page.is_active(document) {
@@ -99,13 +101,13 @@ fn run_for_each<K: Sink, L: Ledger>(
     page: &mut Page,
     script: &Script,
     part: Part,
-    documents: &[u32],
+    documents: &[DocumentId],
     sink: &mut K,
     steps: &mut Steps<L>,
 ) -> Result<(), RunFault>
     requires ready { IsPrepared script.now.items page.old.world }
     ensures says { Runs goes_on (λ _. page.new.world) result (K.taken sink.old) (K.taken sink.new) (K.faults sink.old) (K.faults sink.new)
-        (for_each (λ document. while_active document (part_of (handlers_in script.now.items) part document)) documents.now page.old.world) }
+        (for_each (λ document. while_active document (part_of (handlers_in script.now.items) part document)) (document_numbers documents.now) page.old.world) }
     ensures ready { IfOk result (λ _. IsPrepared script.now.items page.new.world) }
 {
     for document in documents {

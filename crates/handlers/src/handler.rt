@@ -9,6 +9,7 @@ ghost use Rattle.handlers.specs.Entries.{entries_of, AreHanded, AreIn};
 
 use crate::commands::run_block;
 use crate::entries::{Entries, write_entries};
+use element_tree::DocumentId;
 use event_tables::HandlerId;
 use page_state::Page;
 use script_syntax::Script;
@@ -75,7 +76,7 @@ pub fn run_handler<K: Sink, L: Ledger>(
     alloc: Global,
     page: &mut Page,
     script: &Script,
-    document: u32,
+    document: DocumentId,
     handler: Option<HandlerId>,
     entries: &Entries,
     sink: &mut K,
@@ -83,7 +84,7 @@ pub fn run_handler<K: Sink, L: Ledger>(
 ) -> Result<(), RunFault>
     requires handed { AreHanded page.old.world (entries_of entries.now) }
     ensures { Runs goes_on (λ _. page.new.world) result (K.taken sink.old) (K.taken sink.new) (K.faults sink.old) (K.faults sink.new)
-        (call (handlers_in script.now.items) document (option_map (λ it. it.0) handler) (entries_of entries.now) page.old.world) }
+        (call (handlers_in script.now.items) document.0 (option_map (λ it. it.0) handler) (entries_of entries.now) page.old.world) }
 {
     if !page.is_active(document) {
         return Ok(());

@@ -11,9 +11,8 @@ use Rattle.element_tree.specs.Links.{number}
 use Rattle.page_model.specs.World.{ImplicitRoot, World}
 use Rattle.page_model.specs.Shown.{Shown, shown_of, has_box}
 use Rattle.page_model.specs.Chains.{border_rect, clips_between, viewport_rect, zero_rect}
-use Rattle.clip_chain.specs.declared.spot.Spot.TheVariants.{View}
 use Rattle.clip_chain.specs.Chains.{IsAbove}
-use Rattle.clip_chain.specs.Worlds.{scene_of, element_spot}
+use Rattle.clip_chain.specs.Worlds.{scene_of, element_spot, view_spot}
 use Rattle.clip_chain.proofs.Worlds.{clips_are}
 use Rattle.page_geometry.specs.Scenes.{IsPageTree}
 use Rattle.page_geometry.proofs.Chains.{above}
@@ -22,7 +21,7 @@ use Rattle.hit_test.specs.Hits.{has_point, hits, is_hit, shows_between}
 use Rattle.hit_test.specs.Painting.{paint_order}
 
 module _ (it : Shown) (page : IsPageTree it.tree) (n : ℕ) (boxed : has_box it n ≡ true) where
-  pub to_screen : IsAbove (scene_of it) (View 0) (element_spot n)
+  pub to_screen : IsAbove (scene_of it) (view_spot 0) (element_spot n)
   to_screen = above it.tree it.screen it.scrolls page.framed ImplicitRoot n boxed refl
 
   pub hit_is : (at : Point) → shows_between (scene_of it) at (element_spot n) to_screen.0 ≡ is_hit it at n
@@ -31,7 +30,7 @@ module _ (it : Shown) (page : IsPageTree it.tree) (n : ℕ) (boxed : has_box it 
       ap (λ b. list_all (has_point at) (cond b (border_rect it n) zero_rect ∷ viewport_rect it 0 ∷ filter_map (scene_of it).clip to_screen.0)) boxed
       ∙ ap (λ clips. list_all (has_point at) (border_rect it n ∷ viewport_rect it 0 ∷ clips))
       (clips_are it ImplicitRoot n to_screen.0 to_screen.1
-      (few_between it.tree it.screen it.scrolls page.framed page.few page.deep (element_spot n) (View 0) to_screen.0 to_screen.1))
+      (few_between it.tree it.screen it.scrolls page.framed page.few page.deep (element_spot n) (view_spot 0) to_screen.0 to_screen.1))
       ∙ ap (λ b. b && list_all (has_point at) (border_rect it n ∷ viewport_rect it 0 ∷ clips_between it ImplicitRoot n)) (sym boxed)
 
 pub boxless : (it : Shown) (at : Point) (n : ℕ) → has_box it n ≡ false → is_hit it at n ≡ false

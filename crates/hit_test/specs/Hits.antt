@@ -8,7 +8,7 @@ use Rattle.page_model.specs.PageBoxes as boxes
 use Rattle.page_model.specs.Shown.{Shown, shown_of, has_box}
 use Rattle.page_model.specs.Chains.{border_rect, clips_between, viewport_rect}
 use Rattle.clip_chain.specs.declared.spot.Spot.{Spot}
-use Rattle.clip_chain.specs.declared.spot.Spot.TheVariants.{View}
+use Rattle.clip_chain.specs.Worlds.{view_spot}
 use Rattle.clip_chain.specs.Scenes.{Scene}
 use Rattle.hit_test.specs.Painting.{paint_order}
 
@@ -34,4 +34,4 @@ hits world at = reverse (filter (is_hit (shown_of world) at) (paint_order (world
 
 -- the same of a target by its chain to the viewport of the top document, with these spots between
 abbrev pub shows_between : Scene → Point → Spot → List Spot → Bool
-shows_between scene at target between = list_all (has_point at) (scene.bounds target ∷ scene.bounds (View 0) ∷ filter_map (scene.clip) between)
+shows_between scene at target between = list_all (has_point at) (scene.bounds target ∷ scene.bounds (view_spot 0) ∷ filter_map (scene.clip) between)

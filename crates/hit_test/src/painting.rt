@@ -7,7 +7,7 @@ ghost use Rattle.page_documents.specs.Seen.{seen_tree};
 ghost use Rattle.page_tree.specs.Items.{carried_in};
 ghost use Rattle.hit_test.specs.Painting.{paint_order, painted_down, painted_inside, painted_root};
 
-use element_tree::{NodeId, Tree};
+use element_tree::{DocumentId, NodeId, Tree};
 use page_tree::{Element, PageTree};
 use std::alloc::{AllocError, Global};
 
@@ -15,8 +15,8 @@ use std::alloc::{AllocError, Global};
 const LEVELS: u32 = 65536;
 
 // The root element of a document, none where it has none or isn't Active.
-fn painted_root(page: &PageTree, document: u32) -> Option<NodeId>
-    ensures value { option_to_list (option_map number result) ≡ painted_root page.now.tree document }
+fn painted_root(page: &PageTree, document: DocumentId) -> Option<NodeId>
+    ensures value { option_to_list (option_map number result) ≡ painted_root page.now.tree document.0 }
     ensures held { IfSome result (λ root. root.0 < length page.now.tree.elements) }
 {
     if page.is_active(document) {
@@ -72,7 +72,7 @@ pub fn paint_order(alloc: Global, page: &PageTree) -> Result<Vec<NodeId>, AllocE
     ensures { IfOk result (λ painted. map number painted.items ≡ paint_order page.now.tree) }
 {
     let mut painted = Vec::new(alloc);
-    if let Some(root) = painted_root(page, 0) {
+    if let Some(root) = painted_root(page, DocumentId(0)) {
         paint_down(page, page.tree(), root, LEVELS, &mut painted)?;
     }
     Ok(painted)

@@ -2,16 +2,17 @@
 
 ghost use Rattle.std.specs.Prelude.{◌≡◌, List};
 ghost use Rattle.clip_chain.specs.declared.spot.Spot.{Spot as SpotOf};
-ghost use Rattle.clip_chain.specs.declared.spot.Spot.TheVariants.{Node, View};
+ghost use Rattle.clip_chain.specs.declared.spot.Spot.TheVariants.{Node};
 ghost use Rattle.clip_chain.specs.Chains.{IsAbove, Leads};
+ghost use Rattle.clip_chain.specs.Worlds.{view_spot};
 ghost use Rattle.hit_test.specs.Hits.{has_point, is_between, shows_between};
 
 use clip_chain::{Geometry, Spot, visible_rect};
-use element_tree::NodeId;
+use element_tree::{DocumentId, NodeId};
 use px_units::{Point, Rect};
 
 /// The viewport of the top document.
-const SCREEN: Spot = Spot::View(0);
+const SCREEN: Spot = Spot::View(DocumentId(0));
 
 // Whether a place lies between two edges, the first one included and the second one not.
 fn is_between(low: i64, high: i64, at: i64) -> bool
@@ -32,8 +33,8 @@ fn has_point(rect: Rect, at: Point) -> bool
 ///
 /// Needs that the element has a box, so that its chain of containers leads to the viewport (`reaches`).
 pub fn shows_at<G: Geometry>(geometry: &G, node: NodeId, at: Point) -> bool
-    requires { IsAbove (G.scene geometry.now) (View 0) (Node node) }
-    ensures { (between : List SpotOf) → Leads (G.scene geometry.now) (Node node) between (View 0) →
+    requires { IsAbove (G.scene geometry.now) (view_spot 0) (Node node) }
+    ensures { (between : List SpotOf) → Leads (G.scene geometry.now) (Node node) between (view_spot 0) →
         result ≡ shows_between (G.scene geometry.now) at (Node node) between }
 {
     let screen = geometry.bounds(SCREEN);

@@ -10,7 +10,7 @@ use Rattle.intersection_observer.specs.declared.registration.Registered.{Registe
 
 abbrev pub seen_root : Root → model.Root
 seen_root Implicit = model.ImplicitRoot
-seen_root (Document document) = model.DocumentRoot document
+seen_root (Document document) = model.DocumentRoot document.0
 seen_root (Node node) = model.ElementRoot node.0
 
 abbrev pub seen_finding : Finding → model.Finding

@@ -1,6 +1,6 @@
 //! The name of an observer, and its root.
 
-use element_tree::NodeId;
+use element_tree::{DocumentId, NodeId};
 
 /// The name of an intersection observer: its number, from 0 in order of making.
 #[derive(Clone, Copy, PartialEq, Eq, Debug)]
@@ -12,6 +12,6 @@ pub enum Root {
     /// The viewport of the top document.
     Implicit,
     /// The viewport of a document.
-    Document(u32),
+    Document(DocumentId),
     Node(NodeId),
 }

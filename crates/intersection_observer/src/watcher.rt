@@ -12,7 +12,7 @@ ghost use Rattle.intersection_observer.specs.declared.registration.Settled.TheVa
 
 use crate::registration::Registered;
 use crate::{Entry, EntryList, Finding, RegistrationId, Root, Settled};
-use element_tree::NodeId;
+use element_tree::{DocumentId, NodeId};
 use indexmap::IndexMap;
 use std::alloc::{AllocError, Global};
 use std::marker::Model;
@@ -21,7 +21,7 @@ use thresholds::{Margins, Thresholds};
 
 #[derive(Drop)]
 pub(crate) struct Watcher {
-    document: u32,
+    document: DocumentId,
     handler: Option<u32>,
     root: Root,
     margins: Margins,
@@ -40,7 +40,7 @@ impl Model for Watcher {
 
     ghost use Rattle.intersection_observer.specs.Seen.{seen_root, seen_registration, seen_entries, serial_numbers};
 
-    ghost view = { λ w. record { document = w.document; handler = w.handler; root = seen_root w.root; margins = w.margins; thresholds = w.thresholds; registrations = map seen_registration w.registered.entries; queue = seen_entries w.queue.items } };
+    ghost view = { λ w. record { document = w.document.0; handler = w.handler; root = seen_root w.root; margins = w.margins; thresholds = w.thresholds; registrations = map seen_registration w.registered.entries; queue = seen_entries w.queue.items } };
 
     ghost invariant = { λ w. serial_numbers w.names.items ≡ map (λ (it : Registration). it.serial) (map seen_registration w.registered.entries) };
 }
@@ -48,13 +48,13 @@ impl Model for Watcher {
 impl Watcher {
     pub(crate) fn new(
         alloc: Global,
-        document: u32,
+        document: DocumentId,
         handler: Option<u32>,
         root: Root,
         margins: Margins,
         thresholds: Thresholds,
     ) -> Watcher
-        ensures { result ≡ record { document = document; handler = handler; root = seen_root root; margins = margins; thresholds = thresholds; registrations = []; queue = [] } }
+        ensures { result ≡ record { document = document.0; handler = handler; root = seen_root root; margins = margins; thresholds = thresholds; registrations = []; queue = [] } }
     {
         Watcher {
             document,
@@ -68,8 +68,8 @@ impl Watcher {
         }
     }
 
-    pub(crate) fn document(&self) -> u32
-        ensures { result ≡ self.now.document }
+    pub(crate) fn document(&self) -> DocumentId
+        ensures { result.0 ≡ self.now.document }
     {
         self.document
     }

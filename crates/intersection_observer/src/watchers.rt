@@ -16,7 +16,7 @@ ghost use Rattle.intersection_observer.specs.declared.watchers.WatchFault.TheVar
 use crate::registration::Place;
 use crate::watcher::Watcher;
 use crate::{EntryList, Finding, RegistrationId, Root, Settled, WatcherId};
-use element_tree::NodeId;
+use element_tree::{DocumentId, NodeId};
 use indexmap::IndexMap;
 use std::alloc::{AllocError, Global};
 use std::marker::Model;
@@ -27,10 +27,10 @@ use thresholds::{Margins, Thresholds};
 #[derive(Clone, Copy, Debug, PartialEq, Eq, Error)]
 pub enum WatchFault {
     /// As many as there may be are there.
-    #[error("Limit")]
+    #[error("as many as there may be are there")]
     Limit,
     /// There is no memory.
-    #[error("Memory")]
+    #[error("out of memory")]
     Memory,
 }
 
@@ -96,14 +96,14 @@ impl Watchers {
     /// `Limit` exactly where `most_watchers` were made; else `Memory` where there is none. The thresholds are dropped then.
     pub fn make(
         &mut self,
-        document: u32,
+        document: DocumentId,
         handler: Option<u32>,
         root: Root,
         margins: Margins,
         thresholds: Thresholds,
     ) -> Result<WatcherId, WatchFault>
         ensures watcher { IfOk result (λ watcher. watcher.0 ≡ length self.old.part.made) }
-        ensures made { OnOk result (self.new ≡ record self.old { part = with_intersection_observer document handler (seen_root root) margins thresholds (self.old.part) }) }
+        ensures made { OnOk result (self.new ≡ record self.old { part = with_intersection_observer document.0 handler (seen_root root) margins thresholds (self.old.part) }) }
         ensures same { OnErr result (self.new ≡ self.old) }
         ensures room { Enters result (has_room self.old) }
     {
@@ -275,9 +275,9 @@ impl Watchers {
     }
 
     /// The document that an observer was made for.
-    pub fn document_of(&self, watcher: WatcherId) -> u32
+    pub fn document_of(&self, watcher: WatcherId) -> DocumentId
         requires { watcher.0 < length self.now.part.made }
-        ensures { result ≡ (watcher_at self.now watcher.0).document }
+        ensures { result.0 ≡ (watcher_at self.now watcher.0).document }
     {
         self.made[watcher.0 as usize].document()
     }

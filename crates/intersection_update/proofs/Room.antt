@@ -26,4 +26,4 @@ may_be_walked shown page it held room serial =
   where
     each : (spot : Spot) → IsThere shown.tree spot → MayBeSeen held.seen held.clips spot
     each (Node node) there = room.nodes (node.0) there
-    each (View document) there = room.views document there
+    each (View document) there = room.views document.0 there

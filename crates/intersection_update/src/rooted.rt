@@ -8,32 +8,32 @@ ghost use Rattle.intersection_observer.specs.Watchers.{watcher_at};
 ghost use Rattle.intersection_observer.specs.declared.root.WatcherId.{WatcherId};
 ghost use Rattle.intersection_update.specs.Watching.{watcher_numbers};
 
-use element_tree::NodeId;
+use element_tree::{DocumentId, NodeId};
 use intersection_observer::{Root, WatcherId, Watchers};
 use page_tree::PageTree;
 use std::alloc::{AllocError, Global};
 
 // Whether an element stands in the tree of a document: not where there is no such element.
-fn stands_in(page: &PageTree, node: NodeId, document: u32) -> bool
-    ensures { result ≡ is_number (tree_document page.now.tree node.0) document }
+fn stands_in(page: &PageTree, node: NodeId, document: DocumentId) -> bool
+    ensures { result ≡ is_number (tree_document page.now.tree node.0) document.0 }
 {
     if !page.tree().holds(node) {
         return false;
     }
     match page.tree_document(node) {
-        Some(own) => own == document,
+        Some(own) => own.0 == document.0,
         None => false,
     }
 }
 
 // Whether an observer with this root is looked at with a document: where the root is the document or stands in its tree;
 // with the implicit root, for the top document.
-fn is_rooted_in(page: &PageTree, root: Root, document: u32) -> bool
-    ensures { result ≡ is_rooted_in page.now.tree document (seen_root root) }
+fn is_rooted_in(page: &PageTree, root: Root, document: DocumentId) -> bool
+    ensures { result ≡ is_rooted_in page.now.tree document.0 (seen_root root) }
 {
     match root {
-        Root::Implicit => document == 0,
-        Root::Document(own) => own == document,
+        Root::Implicit => document.0 == 0,
+        Root::Document(own) => own.0 == document.0,
         Root::Node(node) => stands_in(page, node, document),
     }
 }
@@ -44,10 +44,10 @@ pub(crate) fn is_looked_at(
     page: &PageTree,
     watchers: &Watchers,
     watcher: WatcherId,
-    document: u32,
+    document: DocumentId,
 ) -> bool
     requires { watcher.0 < length watchers.now.part.made }
-    ensures { result ≡ is_rooted_in page.now.tree document (watcher_at watchers.now watcher.0).root }
+    ensures { result ≡ is_rooted_in page.now.tree document.0 (watcher_at watchers.now watcher.0).root }
 {
     is_rooted_in(page, watchers.root_of(watcher), document)
 }
@@ -63,9 +63,9 @@ pub fn watchers_of(
     alloc: Global,
     page: &PageTree,
     watchers: &Watchers,
-    document: u32,
+    document: DocumentId,
 ) -> Result<Vec<WatcherId>, AllocError>
-    ensures numbers { IfOk result (λ list. watcher_numbers list.items ≡ numbers_of page.now.tree document watchers.now.part) }
+    ensures numbers { IfOk result (λ list. watcher_numbers list.items ≡ numbers_of page.now.tree document.0 watchers.now.part) }
     ensures made { IfOk result (λ list. All (λ watcher. watcher.0 < length watchers.now.part.made) list.items) }
 {
     let mut found = Vec::new(alloc);

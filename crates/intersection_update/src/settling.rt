@@ -18,6 +18,7 @@ ghost use Rattle.intersection_update.specs.Keeping.{HaveChains, is_stale_in, Sta
 ghost use Rattle.intersection_update.specs.Steps.{steps_at, most_steps};
 
 use crate::rooted::is_looked_at;
+use element_tree::DocumentId;
 use intersection_observer::{WatcherId, Watchers};
 use kept_findings::{KeptFindings, Looks};
 use page_geometry::Shown;
@@ -119,17 +120,17 @@ pub fn update<L: Ledger>(
     watchers: &mut Watchers,
     scroll_margins: &[Margins],
     findings: &mut KeptFindings,
-    document: u32,
+    document: DocumentId,
     time: u64,
     steps: &mut Steps<L>,
 ) -> Result<bool, AllocError>
     requires margins { length scroll_margins.now ≡ length watchers.old.part.made }
     requires registered { AreRegistered watchers.old.part scroll_margins.now findings.old }
     requires room { HaveRoom (length shown.now.tree.elements) (length shown.now.tree.documents) findings.old }
-    ensures updated { OnOk result (watchers.new ≡ record watchers.old { part = updated shown.now scroll_margins.now shown.now.tree document time (watchers.old.part) }) }
-    ensures stopped { OnErr result (IsStopped shown.now scroll_margins.now shown.now.tree document time watchers.old.part watchers.new.part) }
-    ensures settled { OnOk result (AreSettled shown.now scroll_margins.now document watchers.old.part watchers.new.part) }
-    ensures queued { IfOk result (λ queued. queued ≡ has_news shown.now.tree document watchers.old.part (updated shown.now scroll_margins.now shown.now.tree document time watchers.old.part)) }
+    ensures updated { OnOk result (watchers.new ≡ record watchers.old { part = updated shown.now scroll_margins.now shown.now.tree document.0 time (watchers.old.part) }) }
+    ensures stopped { OnErr result (IsStopped shown.now scroll_margins.now shown.now.tree document.0 time watchers.old.part watchers.new.part) }
+    ensures settled { OnOk result (AreSettled shown.now scroll_margins.now document.0 watchers.old.part watchers.new.part) }
+    ensures queued { IfOk result (λ queued. queued ≡ has_news shown.now.tree document.0 watchers.old.part (updated shown.now scroll_margins.now shown.now.tree document.0 time watchers.old.part)) }
     ensures written { AreWatchers (length shown.now.tree.elements) watchers.old.part.made → AreWatchers (length shown.now.tree.elements) watchers.new.part.made }
     ensures limits { watchers.new ≡ record watchers.old { part = watchers.new.part } }
     ensures count { length watchers.new.part.made ≡ length watchers.old.part.made }
@@ -137,18 +138,18 @@ pub fn update<L: Ledger>(
     ensures registered { AreRegistered watchers.new.part scroll_margins.now findings.new }
     ensures room { HaveRoom (length shown.now.tree.elements) (length shown.now.tree.documents) findings.new }
     ensures touched { ChangesByLooks (scene_of shown.now) findings.old.seen findings.new.seen findings.old.clips.touches findings.new.clips.touches }
-    ensures left { (spot : SpotOf) → ((serial : ℕ) → IsLookedAt shown.now.tree document watchers.old.part serial → IsOff shown.now watchers.old.part spot serial) →
+    ensures left { (spot : SpotOf) → ((serial : ℕ) → IsLookedAt shown.now.tree document.0 watchers.old.part serial → IsOff shown.now watchers.old.part spot serial) →
         IsLeft findings.old.seen findings.new.seen findings.old.clips.touches findings.new.clips.touches spot }
-    ensures seen { OnOk result ((serial : ℕ) → IsLookedAt shown.now.tree document watchers.new.part serial → IsSeen shown.now watchers.new.part findings.new.seen serial) }
+    ensures seen { OnOk result ((serial : ℕ) → IsLookedAt shown.now.tree document.0 watchers.new.part serial → IsSeen shown.now watchers.new.part findings.new.seen serial) }
     ensures kept { (chained : HaveChains shown.now) (serial : ℕ) → is_stale_in shown.now scroll_margins.now chained watchers.old.part findings.old.kept serial ≡ false →
         kept_of findings.new.kept serial ≡ kept_of findings.old.kept serial }
-    ensures others { (serial : ℕ) → is_rooted_in shown.now.tree document (observer_of watchers.old.part serial).root ≡ false →
+    ensures others { (serial : ℕ) → is_rooted_in shown.now.tree document.0 (observer_of watchers.old.part serial).root ≡ false →
         kept_of findings.new.kept serial ≡ kept_of findings.old.kept serial }
-    ensures fresh { (chained : HaveChains shown.now) → OnOk result ((serial : ℕ) → IsLookedAt shown.now.tree document watchers.new.part serial →
+    ensures fresh { (chained : HaveChains shown.now) → OnOk result ((serial : ℕ) → IsLookedAt shown.now.tree document.0 watchers.new.part serial →
         is_stale_in shown.now scroll_margins.now chained watchers.new.part findings.new.kept serial ≡ false) }
     ensures computed { KeepsComputed findings.old.clips findings.new.clips }
-    ensures ticks { (chained : HaveChains shown.now) → OnOk result (steps.new ≤ steps.old + most_steps shown.now scroll_margins.now chained document watchers.old.part findings.old findings.new) }
-    ensures refused { (chained : HaveChains shown.now) → OnErr result (IsRefused shown.now scroll_margins.now chained document time watchers.old.part watchers.new.part findings.old.kept findings.new.kept) }
+    ensures ticks { (chained : HaveChains shown.now) → OnOk result (steps.new ≤ steps.old + most_steps shown.now scroll_margins.now chained document.0 watchers.old.part findings.old findings.new) }
+    ensures refused { (chained : HaveChains shown.now) → OnErr result (IsRefused shown.now scroll_margins.now chained document.0 time watchers.old.part watchers.new.part findings.old.kept findings.new.kept) }
 {
     // It tells that chains lead to roots.
     shown.document_count();

@@ -15,7 +15,7 @@ pub same_last : (of spot : Spot) (it : Touched) → last_touch (with_spot of it)
 same_last (Node a) (Node b) it = filled 0 it.nodes (suc a.0 - length it.nodes) b.0
 same_last (Node a) (View d) it = refl
 same_last (View d) (Node b) it = refl
-same_last (View c) (View d) it = filled 0 it.views (suc c - length it.views) d
+same_last (View c) (View d) it = filled 0 it.views (suc c.0 - length it.views) d.0
 
 same_tests : (of : Spot) (it : Touched) (since : ℕ) (spots : List Spot) → list_all (is_untouched (with_spot of it) since) spots ≡ list_all (is_untouched it since) spots
 same_tests of it since [] = refl

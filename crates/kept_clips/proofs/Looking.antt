@@ -20,13 +20,13 @@ room_seen : (it : Seen) (of spot : Spot) (s : Sighting) → HasRoom it spot → 
 room_seen it (Node a) (Node b) s room = subst (λ n. b.0 < n) (sym (length-set it.nodes a.0 (Some s))) room
 room_seen it (Node a) (View d) s room = room
 room_seen it (View d) (Node b) s room = room
-room_seen it (View c) (View d) s room = subst (λ n. d < n) (sym (length-set it.views c (Some s))) room
+room_seen it (View c) (View d) s room = subst (λ n. d.0 < n) (sym (length-set it.views c.0 (Some s))) room
 
 added_touched : (it : Touched) (of spot : Spot) (number : ℕ) → IsAdded it spot → IsAdded (touched_at number of it) spot
 added_touched it (Node a) (Node b) number added = subst (λ n. b.0 < n) (sym (length-set it.nodes a.0 number)) added
 added_touched it (Node a) (View d) number added = added
 added_touched it (View d) (Node b) number added = added
-added_touched it (View c) (View d) number added = subst (λ n. d < n) (sym (length-set it.views c number)) added
+added_touched it (View c) (View d) number added = subst (λ n. d.0 < n) (sym (length-set it.views c.0 number)) added
 
 module _ (scene : Scene) where
   pub changes_none : (seen : Seen) (touches : Touched) → ChangesByLooks scene seen seen touches touches

@@ -8,6 +8,7 @@ use Rattle.std.specs.FinMap.{get, insert, remove, get-insert, get-remove, get-em
 use Rattle.std.specs.Ordering.{nat_cmp, eq_by_cmp}
 use Rattle.clip_chain.specs.declared.spot.Spot.{Spot}
 use Rattle.clip_chain.specs.declared.spot.Spot.TheVariants.{Node, View}
+use Rattle.clip_chain.specs.Worlds.{view_spot}
 use Rattle.clip_chain.specs.Scenes.{Scene}
 use Rattle.kept_clips.specs.declared.pair.Pair.{Pair}
 use Rattle.kept_clips.specs.Touches.{Touched, last_touch}
@@ -16,7 +17,7 @@ use Rattle.kept_clips.specs.Numbers.{IsNumbered, AreNumbered}
 use Rattle.kept_clips.specs.Chains.{IsExactPair, IsExact}
 
 abbrev pub no_pair : Pair
-no_pair = new_pair (View 0) (View 0)
+no_pair = new_pair (view_spot 0) (view_spot 0)
 
 chosen : (b : Bool) (p : Pair) (o : Option Pair) → unwrap_or (cond b (Some p) o) no_pair ≡ cond b p (unwrap_or o no_pair)
 chosen true p o = refl
@@ -112,4 +113,4 @@ spots_computed it number other clip held =
 
 pub exact_empty : (scene : Scene) (touches : Touched) (number : ℕ) → IsExact scene (record { touches = touches; pairs = empty }) number
 exact_empty scene touches number =
-    subst (IsExactPair scene touches) (sym (ap (λ (o : Option Pair). unwrap_or o no_pair) (get-empty nat_cmp number))) (exact_new scene touches (View 0) (View 0))
+    subst (IsExactPair scene touches) (sym (ap (λ (o : Option Pair). unwrap_or o no_pair) (get-empty nat_cmp number))) (exact_new scene touches (view_spot 0) (view_spot 0))

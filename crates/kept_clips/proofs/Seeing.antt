@@ -19,11 +19,11 @@ pub seen_there : (it : Seen) (of other : Spot) (s : Sighting) → (¬ other ≡ 
 seen_there it (Node a) (Node b) s apart = get_or-set_other it.nodes a.0 b.0 (Some s) None (other_node b.0 a.0 apart)
 seen_there it (Node a) (View d) s apart = refl
 seen_there it (View d) (Node b) s apart = refl
-seen_there it (View c) (View d) s apart = get_or-set_other it.views c d (Some s) None (other_view d c apart)
+seen_there it (View c) (View d) s apart = get_or-set_other it.views c.0 d.0 (Some s) None (other_view d.0 c.0 apart)
 
 pub seen_here : (it : Seen) (of : Spot) (s : Sighting) → HasRoom it of → sighting_of (with_sighting of s it) of ≡ Some s
 seen_here it (Node a) s room = get_or-set_same it.nodes a.0 (Some s) None room
-seen_here it (View d) s room = get_or-set_same it.views d (Some s) None room
+seen_here it (View d) s room = get_or-set_same it.views d.0 (Some s) None room
 
 abbrev pub was_scrolling : Option Sighting → Bool
 was_scrolling o = unwrap_or (option_map (λ (each : Sighting). each.scrolls) o) false
@@ -53,7 +53,7 @@ kept_at (x ∷ xs) (suc n) s e = ap (λ (others : List (Option Sighting)). x ∷
 
 pub seen_again : (it : Seen) (of : Spot) (s : Sighting) → sighting_of it of ≡ Some s → with_sighting of s it ≡ it
 seen_again it (Node a) s e = ap (λ (nodes : List (Option Sighting)). record it { nodes = nodes }) (kept_at it.nodes a.0 s e)
-seen_again it (View d) s e = ap (λ (views : List (Option Sighting)). record it { views = views }) (kept_at it.views d s e)
+seen_again it (View d) s e = ap (λ (views : List (Option Sighting)). record it { views = views }) (kept_at it.views d.0 s e)
 
 pub agrees_as_seen : (it : Seen) (of : Spot) (now : Scene) → sighting_of it of ≡ Some (sighting_in now of) → AgreesAt (scene_seen it) now of
 agrees_as_seen it of now e = record {
@@ -91,7 +91,7 @@ pub seen_with_room : (it : Seen) (of spot : Spot) → sighting_of (with_room of 
 seen_with_room it (Node a) (Node b) = filled it.nodes (suc a.0 - length it.nodes) b.0
 seen_with_room it (Node a) (View d) = refl
 seen_with_room it (View d) (Node b) = refl
-seen_with_room it (View c) (View d) = filled it.views (suc c - length it.views) d
+seen_with_room it (View c) (View d) = filled it.views (suc c.0 - length it.views) d.0
 
 -- the scene that was seen is told by what was seen of each spot
 pub same_scene : (before after : Seen) → ((spot : Spot) → sighting_of after spot ≡ sighting_of before spot) → scene_seen after ≡ scene_seen before

@@ -22,13 +22,13 @@ use Rattle.kept_clips.proofs.Testing.{both}
 
 pub touched_here : (of : Spot) (it : Touched) (number : ℕ) → IsAdded it of → last_touch (touched_at number of it) of ≡ number
 touched_here (Node node) it number added = get_or-set_same it.nodes node.0 number 0 added
-touched_here (View document) it number added = get_or-set_same it.views document number 0 added
+touched_here (View document) it number added = get_or-set_same it.views document.0 number 0 added
 
 pub untouched_there : (of spot : Spot) (it : Touched) (number : ℕ) → (¬ spot ≡ of) → last_touch (touched_at number of it) spot ≡ last_touch it spot
 untouched_there (Node a) (Node b) it number apart = get_or-set_other it.nodes a.0 b.0 number 0 (other_node b.0 a.0 apart)
 untouched_there (Node a) (View d) it number apart = refl
 untouched_there (View d) (Node b) it number apart = refl
-untouched_there (View c) (View d) it number apart = get_or-set_other it.views c d number 0 (other_view d c apart)
+untouched_there (View c) (View d) it number apart = get_or-set_other it.views c.0 d.0 number 0 (other_view d.0 c.0 apart)
 
 -- none of these spots is the touched one
 abbrev AreApart : Spot → List Spot → Type 0

@@ -3,7 +3,7 @@ use Rattle.std.specs.Prelude.{ℕ, Option, Some, None, IsSome, unwrap_or, option
 use Rattle.std.specs.Ordering.{nat_cmp}
 use Rattle.std.specs.FinMap.{FinMap, get, insert, remove}
 use Rattle.clip_chain.specs.declared.spot.Spot.{Spot}
-use Rattle.clip_chain.specs.declared.spot.Spot.TheVariants.{View}
+use Rattle.clip_chain.specs.Worlds.{view_spot}
 use Rattle.kept_clips.specs.declared.clip.Clip.{Clip}
 use Rattle.kept_clips.specs.declared.pair.Pair.{Pair}
 use Rattle.kept_clips.specs.Touches.{Touched}
@@ -25,7 +25,7 @@ new_pair root of = record { root = root; of = of; computed = None }
 
 -- the pair of a number that is held
 abbrev pub pair_of : HeldClips → ℕ → Pair
-pair_of it number = unwrap_or (pair_at it number) (new_pair (View 0) (View 0))
+pair_of it number = unwrap_or (pair_at it number) (new_pair (view_spot 0) (view_spot 0))
 
 -- the spots of a pair, and those of the pair of a number
 

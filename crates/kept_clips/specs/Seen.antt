@@ -14,7 +14,7 @@ pub record Seen : Type 0 where
 
 abbrev pub sighting_of : Seen → Spot → Option Sighting
 sighting_of it (Node node) = slice_index_or it.nodes node.0 None
-sighting_of it (View document) = slice_index_or it.views document None
+sighting_of it (View document) = slice_index_or it.views document.0 None
 
 -- the scene as it was seen last: a spot that wasn't seen stands in nothing and clips nothing. Containers may go in a circle, since they
 -- weren't seen at one moment
@@ -33,15 +33,15 @@ sighting_in scene of = record { container = scene.container of; clip = scene.cli
 
 abbrev pub with_sighting : Spot → Sighting → Seen → Seen
 with_sighting (Node node) s it = record it { nodes = slice_set (it.nodes) (node.0) (Some s) }
-with_sighting (View document) s it = record it { views = slice_set (it.views) document (Some s) }
+with_sighting (View document) s it = record it { views = slice_set (it.views) document.0 (Some s) }
 
 abbrev pub HasRoom : Seen → Spot → Type 0
 HasRoom it (Node node) = node.0 < length it.nodes
-HasRoom it (View document) = document < length it.views
+HasRoom it (View document) = document.0 < length it.views
 
 abbrev pub has_room : Seen → Spot → Bool
 has_room it (Node node) = nat_lt node.0 (length it.nodes)
-has_room it (View document) = nat_lt document (length it.views)
+has_room it (View document) = nat_lt document.0 (length it.views)
 
 abbrev pub up_to : ℕ → List (Option Sighting) → List (Option Sighting)
 up_to number sightings = sightings ++ replicate (suc number - length sightings) None
@@ -49,4 +49,4 @@ up_to number sightings = sightings ++ replicate (suc number - length sightings) 
 -- with room for a spot and for all spots of its kind with lower numbers; what was seen stays as it is
 abbrev pub with_room : Spot → Seen → Seen
 with_room (Node node) it = record it { nodes = up_to (node.0) (it.nodes) }
-with_room (View document) it = record it { views = up_to document (it.views) }
+with_room (View document) it = record it { views = up_to document.0 (it.views) }

@@ -15,15 +15,15 @@ last_number = 18446744073709551615
 
 abbrev pub last_touch : Touched → Spot → ℕ
 last_touch it (Node node) = slice_index it.nodes node.0
-last_touch it (View document) = slice_index it.views document
+last_touch it (View document) = slice_index it.views document.0
 
 abbrev pub is_added : Touched → Spot → Bool
 is_added it (Node node) = nat_lt node.0 (length it.nodes)
-is_added it (View document) = nat_lt document (length it.views)
+is_added it (View document) = nat_lt document.0 (length it.views)
 
 abbrev pub IsAdded : Touched → Spot → Type 0
 IsAdded it (Node node) = node.0 < length it.nodes
-IsAdded it (View document) = document < length it.views
+IsAdded it (View document) = document.0 < length it.views
 
 abbrev pub up_to : ℕ → List ℕ → List ℕ
 up_to number numbers = numbers ++ replicate (suc number - length numbers) 0
@@ -31,11 +31,11 @@ up_to number numbers = numbers ++ replicate (suc number - length numbers) 0
 -- with a spot and all spots of its kind with lower numbers; those that are there stay as they are
 abbrev pub with_spot : Spot → Touched → Touched
 with_spot (Node node) it = record it { nodes = up_to (node.0) (it.nodes) }
-with_spot (View document) it = record it { views = up_to document (it.views) }
+with_spot (View document) it = record it { views = up_to document.0 (it.views) }
 
 abbrev pub touched_at : ℕ → Spot → Touched → Touched
 touched_at number (Node node) it = record it { count = number; nodes = slice_set (it.nodes) (node.0) number }
-touched_at number (View document) it = record it { count = number; views = slice_set (it.views) document number }
+touched_at number (View document) it = record it { count = number; views = slice_set (it.views) document.0 number }
 
 -- a spot was touched after all touches that were counted before, unless as many were as are counted
 abbrev pub IsTouchedSince : Touched → Touched → Spot → Type 0

@@ -1,6 +1,6 @@
 //! The chain from a spot to a root, spot by spot.
 
-ghost use Rattle.std.specs.Prelude.{◌≡◌, ◌<◌, ◌+◌, ◌⊎◌, ◌∷◌, ◌++◌, [], List, length, Some, None, IfSome};
+ghost use Rattle.std.specs.Prelude.{◌≡◌, ◌+◌, ◌∷◌, ◌++◌, [], List, length};
 ghost use Rattle.std.specs.List.{list_all};
 ghost use Rattle.clip_chain.specs.declared.spot.Spot.{Spot as SpotOf};
 ghost use Rattle.clip_chain.specs.Chains.{Leads, IsAbove};
@@ -9,19 +9,9 @@ ghost use Rattle.kept_clips.specs.Clips.{clip_between};
 
 use crate::Clip;
 use crate::touches::Touches;
-use clip_chain::{Geometry, Spot};
+use clip_chain::{Geometry, Spot, container_below};
 use std::sync::ledger::Ledger;
 use step_count::Steps;
-
-/// The container of a spot, None where that is the root or there is none. So a chain is walked outwards from a spot up to its root.
-pub fn container_below<G: Geometry>(geometry: &G, of: Spot, root: Spot) -> Option<Spot>
-    ensures next { IfSome result (λ next. ((G.scene geometry.now).container of ≡ Some next) × (¬ next ≡ root)) }
-    ensures none { result ≡ None → ((G.scene geometry.now).container of ≡ None) ⊎ ((G.scene geometry.now).container of ≡ Some root) }
-    ensures end { IfSome result (λ next. G.rank geometry.now next < G.rank geometry.now of) }
-{
-    let next = geometry.container(of)?;
-    if next == root { None } else { Some(next) }
-}
 
 // Whether no spot of a chain was touched since there were so many touches.
 pub(crate) fn is_untouched<G: Geometry>(

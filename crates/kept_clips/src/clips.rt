@@ -23,12 +23,6 @@ use std::marker::Model;
 use std::sync::ledger::Ledger;
 use step_count::Steps;
 
-const NO_PAIR: Pair = Pair {
-    root: Spot::View(0),
-    of: Spot::View(0),
-    computed: None,
-};
-
 /// Pairs of a root and a spot that stands in it, each with the clip strictly between the two once it was computed, and when
 /// each spot was touched last. A clause sees the pairs by their numbers, which the caller gives, and the number of each spot's
 /// last touch.
@@ -191,13 +185,20 @@ impl Clips {
         ensures exact { (other : ℕ) → IsExact (G.scene geometry.now) self.old other → IsExact (G.scene geometry.now) self.new other }
         ensures spots { (other : ℕ) → spots_at self.new other ≡ spots_at self.old other }
     {
-        let pair = self.pairs.get(number).unwrap_or(NO_PAIR);
+        let pair = self.held_pair(number);
         if let Some(clip) = self.standing(geometry, pair) {
             return clip;
         }
         let clip = clip_between(geometry, pair.root, pair.of, steps);
         self.store(number, pair, clip);
         clip
+    }
+
+    fn held_pair(&self, number: u64) -> Pair
+        requires { IsHeld self.now number }
+        ensures { result ≡ pair_of self.now number }
+    {
+        self.pairs.get(number).unwrap()
     }
 
     // The clip that is held of a pair, none where it doesn't stand.

@@ -14,7 +14,6 @@ mod pair;
 mod sightings;
 mod touches;
 
-pub use between::container_below;
 pub use clip::Clip;
 pub use clips::Clips;
 pub use laws::{a_spot_is_seen_by_itself, clips_hang_on_their_chains_alone};

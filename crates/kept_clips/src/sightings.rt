@@ -88,7 +88,7 @@ impl Sightings {
     {
         match of {
             Spot::Node(node) => (node.0 as usize) < self.nodes.len(),
-            Spot::View(document) => (document as usize) < self.views.len(),
+            Spot::View(document) => (document.0 as usize) < self.views.len(),
         }
     }
 
@@ -110,7 +110,7 @@ impl Sightings {
     {
         match of {
             Spot::Node(node) => extend(&mut self.nodes, node.0),
-            Spot::View(document) => extend(&mut self.views, document),
+            Spot::View(document) => extend(&mut self.views, document.0),
         }
     }
 
@@ -120,18 +120,17 @@ impl Sightings {
     {
         match of {
             Spot::Node(node) => sighting_at(self.nodes.as_slice(), node.0),
-            Spot::View(document) => sighting_at(self.views.as_slice(), document),
+            Spot::View(document) => sighting_at(self.views.as_slice(), document.0),
         }
     }
 
-    // Keeps what is seen of a spot.
     fn put(&mut self, of: Spot, sighting: Sighting)
         requires { HasRoom self.old of }
         ensures { self.new ≡ with_sighting of sighting self.old }
     {
         match of {
             Spot::Node(node) => self.nodes[node.0 as usize] = Some(sighting),
-            Spot::View(document) => self.views[document as usize] = Some(sighting),
+            Spot::View(document) => self.views[document.0 as usize] = Some(sighting),
         }
     }
 

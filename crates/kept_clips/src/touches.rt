@@ -45,7 +45,7 @@ impl Touches {
     {
         match of {
             Spot::Node(node) => (node.0 as usize) < self.nodes.len(),
-            Spot::View(document) => (document as usize) < self.views.len(),
+            Spot::View(document) => (document.0 as usize) < self.views.len(),
         }
     }
 
@@ -56,7 +56,7 @@ impl Touches {
     {
         match of {
             Spot::Node(node) => extend(&mut self.nodes, node.0),
-            Spot::View(document) => extend(&mut self.views, document),
+            Spot::View(document) => extend(&mut self.views, document.0),
         }
     }
 
@@ -65,7 +65,7 @@ impl Touches {
     {
         match of {
             Spot::Node(node) => number_at(self.nodes.as_slice(), node.0),
-            Spot::View(document) => number_at(self.views.as_slice(), document),
+            Spot::View(document) => number_at(self.views.as_slice(), document.0),
         }
     }
 
@@ -76,7 +76,7 @@ impl Touches {
         self.count = self.count.saturating_add(1);
         match of {
             Spot::Node(node) => self.nodes[node.0 as usize] = self.count,
-            Spot::View(document) => self.views[document as usize] = self.count,
+            Spot::View(document) => self.views[document.0 as usize] = self.count,
         }
     }
 }

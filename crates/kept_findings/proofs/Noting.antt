@@ -21,11 +21,11 @@ use Rattle.kept_findings.specs.Looks.{LookedAt, is_looked, IsNoted, HasPlace, no
 
 place_first : (seen : Seen) (spot : Spot) → HasRoom seen spot → HasPlace (no_looks seen) spot
 place_first seen (Node a) room = subst (λ n. a.0 < n) (sym (length-replicate (length seen.nodes) false)) room
-place_first seen (View d) room = subst (λ n. d < n) (sym (length-replicate (length seen.views) false)) room
+place_first seen (View d) room = subst (λ n. d.0 < n) (sym (length-replicate (length seen.views) false)) room
 
 not_looked : (seen : Seen) (spot : Spot) → is_looked (no_looks seen) spot ≡ false
 not_looked seen (Node a) = replicated false (length seen.nodes) a.0
-not_looked seen (View d) = replicated false (length seen.views) d
+not_looked seen (View d) = replicated false (length seen.views) d.0
 
 pub looked_first : (scene : Scene) (rank : Spot → ℕ) (seen : Seen) → AreLooked scene rank seen (no_looks seen)
 looked_first scene rank seen = record {
@@ -37,13 +37,13 @@ looked_first scene rank seen = record {
 
 pub noted_here : (it : LookedAt) (of : Spot) → HasPlace it of → IsNoted (noted of it) of
 noted_here it (Node a) place = get_or-set_same it.nodes a.0 true false place
-noted_here it (View d) place = get_or-set_same it.views d true false place
+noted_here it (View d) place = get_or-set_same it.views d.0 true false place
 
 noted_there : (it : LookedAt) (of other : Spot) → (¬ other ≡ of) → is_looked (noted of it) other ≡ is_looked it other
 noted_there it (Node a) (Node b) apart = get_or-set_other it.nodes a.0 b.0 true false (other_node b.0 a.0 apart)
 noted_there it (Node a) (View d) apart = refl
 noted_there it (View d) (Node b) apart = refl
-noted_there it (View c) (View d) apart = get_or-set_other it.views c d true false (other_view d c apart)
+noted_there it (View c) (View d) apart = get_or-set_other it.views c.0 d.0 true false (other_view d.0 c.0 apart)
 
 pub noted_still : (it : LookedAt) (of other : Spot) → HasPlace it of → IsNoted it other → IsNoted (noted of it) other
 noted_still it of other place is = elim (same_or_apart of other) [
@@ -55,13 +55,13 @@ place_still : (it : LookedAt) (of spot : Spot) → HasPlace it spot → HasPlace
 place_still it (Node a) (Node b) place = subst (λ n. b.0 < n) (sym (length-set it.nodes a.0 true)) place
 place_still it (Node a) (View d) place = place
 place_still it (View d) (Node b) place = place
-place_still it (View c) (View d) place = subst (λ n. d < n) (sym (length-set it.views c true)) place
+place_still it (View c) (View d) place = subst (λ n. d.0 < n) (sym (length-set it.views c.0 true)) place
 
 room_before : (it : Seen) (of spot : Spot) (s : Sighting) → HasRoom (with_sighting of s it) spot → HasRoom it spot
 room_before it (Node a) (Node b) s room = subst (λ n. b.0 < n) (length-set it.nodes a.0 (Some s)) room
 room_before it (Node a) (View d) s room = room
 room_before it (View d) (Node b) s room = room
-room_before it (View c) (View d) s room = subst (λ n. d < n) (length-set it.views c (Some s)) room
+room_before it (View c) (View d) s room = subst (λ n. d.0 < n) (length-set it.views c.0 (Some s)) room
 
 module _ (scene : Scene) (rank : Spot → ℕ) where
   seen_more : (before : Seen) (it : LookedAt) (of : Spot) → HasRoom before of → IsInRange scene rank of → AreLooked scene rank before it → (spot : Spot) → IsNoted (noted of it) spot

@@ -4,10 +4,9 @@ use Rattle.std.specs.List.{AllByRecursion}
 use Rattle.std.proofs.lemmas.Option.{same_Some}
 use Rattle.page_model.specs.World.{IntersectionObservers}
 use Rattle.clip_chain.specs.declared.spot.Spot.{Spot}
-use Rattle.clip_chain.specs.declared.spot.Spot.TheVariants.{View}
 use Rattle.clip_chain.specs.Scenes.{Scene}
 use Rattle.clip_chain.specs.Chains.{Leads}
-use Rattle.clip_chain.specs.Worlds.{element_spot, spot_of_root}
+use Rattle.clip_chain.specs.Worlds.{element_spot, spot_of_root, view_spot}
 use Rattle.intersection_observer.specs.Places.{Standing as Place, standing_of, IsStanding}
 use Rattle.kept_clips.specs.declared.pair.Pair.{Pair}
 use Rattle.kept_clips.specs.Held.{HeldClips, new_pair, pair_at, pair_of, IsHeld, spots_of as spots_in, spots_at}
@@ -18,7 +17,7 @@ use Rattle.kept_findings.specs.Walks.{EachAlong}
 use Rattle.kept_findings.specs.Registered.{spots_of, spots_for}
 
 abbrev no_pair : Pair
-no_pair = new_pair (View 0) (View 0)
+no_pair = new_pair (view_spot 0) (view_spot 0)
 
 -- a pair that is held for two spots
 pub record IsPairOf (clips : HeldClips) (serial : ℕ) (root target : Spot) : Type 0 where

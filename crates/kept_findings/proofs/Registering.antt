@@ -81,23 +81,23 @@ still xs ys n h = omega (arith, h, length-append xs ys)
 
 pub has_room_there : (of : Spot) (it : Seen) → HasRoom (with_room of it) of
 has_room_there (Node a) it = longer it.nodes a.0 None
-has_room_there (View d) it = longer it.views d None
+has_room_there (View d) it = longer it.views d.0 None
 
 pub has_room_still : (of spot : Spot) (it : Seen) → HasRoom it spot → HasRoom (with_room of it) spot
 has_room_still (Node a) (Node b) it h = still it.nodes (replicate (suc a.0 - length it.nodes) None) b.0 h
 has_room_still (Node a) (View d) it h = h
 has_room_still (View d) (Node b) it h = h
-has_room_still (View c) (View d) it h = still it.views (replicate (suc c - length it.views) None) d h
+has_room_still (View c) (View d) it h = still it.views (replicate (suc c.0 - length it.views) None) d.0 h
 
 pub is_added_there : (of : Spot) (it : Touched) → IsAdded (with_spot of it) of
 is_added_there (Node a) it = longer it.nodes a.0 0
-is_added_there (View d) it = longer it.views d 0
+is_added_there (View d) it = longer it.views d.0 0
 
 pub is_added_still : (of spot : Spot) (it : Touched) → IsAdded it spot → IsAdded (with_spot of it) spot
 is_added_still (Node a) (Node b) it h = still it.nodes (replicate (suc a.0 - length it.nodes) 0) b.0 h
 is_added_still (Node a) (View d) it h = h
 is_added_still (View d) (Node b) it h = h
-is_added_still (View c) (View d) it h = still it.views (replicate (suc c - length it.views) 0) d h
+is_added_still (View c) (View d) it h = still it.views (replicate (suc c.0 - length it.views) 0) d.0 h
 
 -- what becomes of room by both calls that make it
 module _ (of : Spot) where

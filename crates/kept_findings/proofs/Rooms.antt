@@ -2,9 +2,8 @@
 use Rattle.std.proofs.Common.{◌≡◌, ℕ, ◌+◌, ◌<◌, refl, sym, subst, inl, inr, arith}
 use Rattle.std.proofs.lemmas.Bool.{cases_lt}
 use Rattle.clip_chain.specs.declared.spot.Spot.{Spot}
-use Rattle.clip_chain.specs.declared.spot.Spot.TheVariants.{View}
 use Rattle.clip_chain.specs.Scenes.{Scene}
-use Rattle.clip_chain.specs.Worlds.{element_spot}
+use Rattle.clip_chain.specs.Worlds.{element_spot, view_spot}
 use Rattle.kept_clips.specs.Touches.{IsAdded}
 use Rattle.kept_clips.specs.Seen.{HasRoom}
 use Rattle.kept_clips.specs.Looked.{Looked, MayBeSeen}
@@ -19,7 +18,7 @@ module _ (elements documents : ℕ) where
   pub room_by : (before now : HeldFindings) → ((spot : Spot) → MayBeSeen before.seen before.clips spot → MayBeSeen now.seen now.clips spot) → HaveRoom elements documents before → HaveRoom elements documents now
   room_by before now each room = record {
     nodes = λ n below. each (element_spot n) (room.nodes n below);
-    views = λ d below. each (View d) (room.views d below);
+    views = λ d below. each (view_spot d) (room.views d below);
   }
 
   pub room_roomier : (before now : HeldFindings) → IsRoomier before now → HaveRoom elements documents before → HaveRoom elements documents now
@@ -54,5 +53,5 @@ module _ (elements documents : ℕ) where
   pub room_element : (it : HeldFindings) → MayBeSeen it.seen it.clips (element_spot elements) → HaveRoom elements documents it → HaveRoom (elements + 1) documents it
   room_element it may room = record { nodes = one_more (λ n. MayBeSeen it.seen it.clips (element_spot n)) elements room.nodes may; views = room.views }
 
-  pub room_document : (it : HeldFindings) → MayBeSeen it.seen it.clips (View documents) → HaveRoom elements documents it → HaveRoom elements (documents + 1) it
-  room_document it may room = record { nodes = room.nodes; views = one_more (λ d. MayBeSeen it.seen it.clips (View d)) documents room.views may }
+  pub room_document : (it : HeldFindings) → MayBeSeen it.seen it.clips (view_spot documents) → HaveRoom elements documents it → HaveRoom elements (documents + 1) it
+  room_document it may room = record { nodes = room.nodes; views = one_more (λ d. MayBeSeen it.seen it.clips (view_spot d)) documents room.views may }

@@ -14,14 +14,14 @@ pub record LookedAt : Type 0 where
 
 abbrev pub is_looked : LookedAt → Spot → Bool
 is_looked it (Node node) = slice_index_or it.nodes node.0 false
-is_looked it (View document) = slice_index_or it.views document false
+is_looked it (View document) = slice_index_or it.views document.0 false
 
 abbrev pub IsNoted : LookedAt → Spot → Type 0
 IsNoted it spot = is_looked it spot ≡ true
 
 abbrev pub HasPlace : LookedAt → Spot → Type 0
 HasPlace it (Node node) = node.0 < length it.nodes
-HasPlace it (View document) = document < length it.views
+HasPlace it (View document) = document.0 < length it.views
 
 -- none was looked at, with a place for each spot that there is room for what is seen of
 abbrev pub no_looks : Seen → LookedAt
@@ -30,7 +30,7 @@ no_looks seen = record { nodes = replicate (length seen.nodes) false; views = re
 -- once a spot was looked at
 abbrev pub noted : Spot → LookedAt → LookedAt
 noted (Node node) it = record it { nodes = slice_set (it.nodes) (node.0) true }
-noted (View document) it = record it { views = slice_set (it.views) document true }
+noted (View document) it = record it { views = slice_set (it.views) document.0 true }
 
 -- a spot was seen last as it is now, which is as a geometry has it
 pub record IsSeenNow (scene : Scene) (rank : Spot → ℕ) (seen : Seen) (spot : Spot) : Type 0 where

@@ -26,7 +26,7 @@ ghost use Rattle.kept_findings.specs.Registered.{AreHeld, AreRegistered};
 
 use crate::Looks;
 use crate::seen_scene::SeenScene;
-use candidate_index::{Index, Scene};
+use candidate_index::{Index, Scene, spot_of_root};
 use clip_chain::{Scrolls, Spot, Through};
 use element_tree::NodeId;
 use intersection_observer::{Finding, RegistrationId, Root, WatcherId, Watchers};
@@ -63,18 +63,6 @@ impl Model for KeptFindings {
     ghost view = { λ f. record { seen = f.seen; clips = f.clips; kept = f.index } };
 }
 
-// The implicit root is the viewport of the top document.
-pub(crate) fn spot_of_root(root: Root) -> Spot
-    ensures { result ≡ spot_of_root (seen_root root) }
-{
-    match root {
-        Root::Implicit => Spot::View(0),
-        Root::Document(document) => Spot::View(document),
-        Root::Node(node) => Spot::Node(node),
-    }
-}
-
-// The spot of an observer's root.
 fn root_spot(watchers: &Watchers, watcher: WatcherId) -> Spot
     requires { watcher.0 < length watchers.now.part.made }
     ensures { result ≡ spot_of_root (intersection_observer_at watchers.now.part watcher.0).root }
@@ -82,7 +70,6 @@ fn root_spot(watchers: &Watchers, watcher: WatcherId) -> Spot
     spot_of_root(watchers.root_of(watcher))
 }
 
-// An observer's scroll margins.
 fn margins_at(scroll_margins: &[Margins], watcher: WatcherId) -> Margins
     requires { watcher.0 < length scroll_margins.now }
     ensures { result ≡ scroll_margins_at scroll_margins.now watcher.0 }
@@ -91,7 +78,7 @@ fn margins_at(scroll_margins: &[Margins], watcher: WatcherId) -> Margins
 }
 
 impl KeptFindings {
-    /// Nothing is kept, which takes no memory yet.
+    /// Nothing is kept; it takes no memory yet.
     pub fn new(alloc: Global) -> KeptFindings
         ensures empty { result ≡ no_findings }
         ensures registered { (watchers : IntersectionObservers) (margins : List ScrollMargins) → ((serial : ℕ) → standing_of serial watchers ≡ None) → AreRegistered watchers margins result }

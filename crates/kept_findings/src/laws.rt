@@ -8,9 +8,8 @@ ghost use Rattle.page_model.specs.World.{Root, Finding as ModelFinding, Registra
 ghost use Rattle.page_model.specs.Lookups.{intersection_observer_at, scroll_margins_at};
 ghost use Rattle.page_model.specs.IntersectionObserving.{is_registered, with_intersection_observer, with_registration, without_registration, without_queue};
 ghost use Rattle.clip_chain.specs.declared.spot.Spot.{Spot as SpotOf};
-ghost use Rattle.clip_chain.specs.declared.spot.Spot.TheVariants.{View};
 ghost use Rattle.clip_chain.specs.Scenes.{Scene as SceneOf};
-ghost use Rattle.clip_chain.specs.Worlds.{element_spot, spot_of_root};
+ghost use Rattle.clip_chain.specs.Worlds.{element_spot, spot_of_root, view_spot};
 ghost use Rattle.intersection_observer.specs.Serials.{HasSerials, registrations_at};
 ghost use Rattle.intersection_observer.specs.Settling.{each_settled};
 ghost use Rattle.intersection_observer.specs.Watchers.{serial_of};
@@ -63,7 +62,7 @@ pub fn room_stays()
     ensures roomier { (elements documents : ℕ) (before now : HeldFindings) → IsRoomier before now → HaveRoom elements documents before → HaveRoom elements documents now }
     ensures element { (elements documents : ℕ) (it : HeldFindings) → MayBeSeen it.seen it.clips (element_spot elements) →
         HaveRoom elements documents it → HaveRoom (elements + 1) documents it }
-    ensures document { (elements documents : ℕ) (it : HeldFindings) → MayBeSeen it.seen it.clips (View documents) →
+    ensures document { (elements documents : ℕ) (it : HeldFindings) → MayBeSeen it.seen it.clips (view_spot documents) →
         HaveRoom elements documents it → HaveRoom elements (documents + 1) it }
     ensures registered { (elements documents serial : ℕ) (root target : SpotOf) (it : HeldFindings) →
         HaveRoom elements documents it → HaveRoom elements documents (with_findings serial root target it) }

@@ -12,13 +12,11 @@ ghost use Rattle.kept_findings.specs.Looks.{AreLooked, IsNoted};
 ghost use Rattle.kept_findings.specs.Registered.{AreRegistered};
 ghost use Rattle.kept_findings.specs.Walks.{EachAlong, IsNot, AreChained, AlongChain, MayBeWalked, IsWalked};
 
-use crate::findings::spot_of_root;
 use crate::seen_scene::SeenScene;
 use crate::{KeptFindings, Looks};
-use candidate_index::{Scene, Standing};
-use clip_chain::{Scrolls, Spot};
+use candidate_index::{Scene, Standing, spot_of_root};
+use clip_chain::{Scrolls, Spot, container_below};
 use intersection_observer::{RegistrationId, WatcherId, Watchers};
-use kept_clips::container_below;
 
 impl KeptFindings {
     // Looks at a spot, unless it was looked at.

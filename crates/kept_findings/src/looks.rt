@@ -25,7 +25,6 @@ impl Model for Looks {
 }
 
 impl Looks {
-    // None was looked at.
     pub(crate) fn new(alloc: Global, sightings: &Sightings) -> Result<Looks, AllocError>
         ensures { IfOk result (λ looks. looks ≡ no_looks sightings.now) }
     {
@@ -42,18 +41,17 @@ impl Looks {
     {
         match of {
             Spot::Node(node) => is_marked(self.nodes.as_slice(), node.0),
-            Spot::View(document) => is_marked(self.views.as_slice(), document),
+            Spot::View(document) => is_marked(self.views.as_slice(), document.0),
         }
     }
 
-    // Notes that a spot was looked at.
     pub(crate) fn note(&mut self, of: Spot)
         requires { HasPlace self.old of }
         ensures { self.new ≡ noted of self.old }
     {
         match of {
             Spot::Node(node) => self.nodes[node.0 as usize] = true,
-            Spot::View(document) => self.views[document as usize] = true,
+            Spot::View(document) => self.views[document.0 as usize] = true,
         }
     }
 }

@@ -105,7 +105,7 @@ impl KeptFindings {
     }
 
     /// Finds what there is to find of an observer's registration, once each spot of its chain was looked at, and settles it as it is told.
-    /// Tells whether an entry was queued, which is where it is news. It takes the steps of `recompute`.
+    /// Returns whether an entry was queued, which is so where the finding is news. It takes the steps of `recompute`.
     ///
     /// # Errors
     /// Where there is no memory for an entry: the observers are as they were then, and the registration counts as never computed.

@@ -14,8 +14,6 @@ pub mod Inside
 pub mod Refreshed
 pub mod Climbs
 pub mod Moved
-pub mod Scrollers
-pub mod Flows
 pub mod Climbed
 pub mod Shifted
 pub mod Measuring

@@ -53,7 +53,7 @@ impl Boxes for Kept {
 }
 
 impl Kept {
-    /// Nothing kept, which takes no memory yet.
+    /// Nothing kept; it takes no memory yet.
     pub fn new(alloc: Global) -> Kept
         ensures { result ≡ [] }
     {

@@ -7,7 +7,6 @@ mod laws;
 mod measures;
 mod positions;
 mod slots;
-mod trees;
 mod walk;
 
 pub use kept::Kept;

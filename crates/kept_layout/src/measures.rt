@@ -1,11 +1,9 @@
 //! What is measured of the boxes that are kept.
 
-ghost use Rattle.std.specs.Prelude.{◌≡◌, ◌<◌, ◌≤◌, ℕ, true, Some, not, option_map, unsigned_abs, length, IfSome};
+ghost use Rattle.std.specs.Prelude.{◌≡◌, ◌<◌, ◌≤◌, ℕ, true, option_map, unsigned_abs, length, IfSome};
 ghost use Rattle.px_units.specs.Lengths.{cap};
 ghost use Rattle.layout_model.specs.Boxes.{Inputs as InputsModel};
-ghost use Rattle.layout_model.specs.Clips.{is_block, is_visible, clips};
 ghost use Rattle.layout_model.specs.Views.{View, inputs_in_view};
-ghost use Rattle.style_values.specs.Seen.{seen_style};
 ghost use Rattle.block_layout.specs.Seen.{seen_inputs};
 ghost use Rattle.block_layout.specs.Trees.{layout_tree};
 ghost use Rattle.positioned_layout.specs.Measured.{AreMeasuresOf, AreMeasuresUp};
@@ -15,15 +13,13 @@ ghost use Rattle.kept_layout.specs.Measures.{IsSized, above_kept, takes_part, me
 ghost use Rattle.kept_layout.specs.Slots.{slot_in};
 
 use crate::Kept;
-use crate::trees::is_hidden;
-use block_layout::{BoxOf, Inputs, ItemKind, Styled};
+use block_layout::{BoxOf, Inputs, Styled, is_block, is_clipping, is_hidden};
 use element_tree::{NodeId, Tree};
 use layout_model::capped;
 use positioned_layout::{Measure, Measures};
 use px_units::BoxKind;
-use style_values::{Overflow, Style};
 
-/// The boxes that are kept for a tree, as placing measures them.
+/// The boxes that are kept for a tree, as `flat_place` and `reach` of `positioned_layout` measure them.
 #[derive(Drop)]
 pub struct KeptMeasures<'a, P: Styled> {
     tree: &'a Tree<P>,
@@ -31,9 +27,8 @@ pub struct KeptMeasures<'a, P: Styled> {
 }
 
 impl Kept {
-    /// What is measured of the boxes that are kept for a tree, for `flat_place` and `reach` of `positioned_layout`. Where each box in a
-    /// viewport is held as it is now, with the heights above it, each is measured so; and for the place of a node it is enough that its
-    /// own and those of its ancestors are. No memory.
+    /// What is measured of the boxes that are kept for a tree, for `flat_place` and `reach` of `positioned_layout`. Exact if each box in a
+    /// viewport is up to date (`refresh`); for the place of a node it is enough that its own box and those of its ancestors are. No memory.
     pub fn measures<'a, P: Styled>(&'a self, tree: &'a Tree<P>) -> KeptMeasures<'a, P>
         ensures tree { result.tree.now ≡ tree.now }
         ensures kept { result.kept.now ≡ self.now }
@@ -68,17 +63,6 @@ impl<P: Styled> Measures for KeptMeasures<'_, P> {
     }
 }
 
-// Whether the children of a node may have boxes.
-fn is_block<P: Styled>(tree: &Tree<P>, node: NodeId) -> bool
-    requires { node.0 < length tree.now.nodes }
-    ensures { result ≡ is_block (layout_tree P.style P.kind tree.now.nodes node.0).item.kind }
-{
-    match tree.payload(node).kind() {
-        ItemKind::Block => true,
-        ItemKind::Image(_) | ItemKind::Frame => false,
-    }
-}
-
 // Whether a node has a box where its parent has one.
 fn takes_part<P: Styled>(tree: &Tree<P>, node: NodeId) -> bool
     ensures value { result ≡ takes_part (layout_tree P.style P.kind tree.now.nodes) node.0 }
@@ -104,28 +88,6 @@ fn above<P: Styled>(tree: &Tree<P>, node: NodeId, kept: u64) -> u64
     match tree.parent(node) {
         Some(_) => capped(kept),
         None => 0,
-    }
-}
-
-// Whether content that doesn't fit is cut (CSS Overflow 3, 3.1).
-fn is_cut(style: &Style) -> bool
-    ensures { result ≡ not (is_visible (seen_style style.now).overflow) }
-{
-    match style.overflow {
-        Overflow::Visible => false,
-        Overflow::Hidden | Overflow::Clip | Overflow::Scroll | Overflow::Auto => true,
-    }
-}
-
-// Whether a node's box cuts its content, at its padding box.
-fn is_clipping<P: Styled>(tree: &Tree<P>, node: NodeId) -> bool
-    requires { node.0 < length tree.now.nodes }
-    ensures { result ≡ clips (layout_tree P.style P.kind tree.now.nodes node.0) }
-{
-    let item = tree.payload(node);
-    match item.kind() {
-        ItemKind::Block => is_cut(item.style()) && tree.parent(node).is_some(),
-        ItemKind::Image(_) | ItemKind::Frame => false,
     }
 }
 

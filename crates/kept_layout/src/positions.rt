@@ -16,8 +16,7 @@ ghost use Rattle.kept_layout.specs.Slots.{slot_in};
 
 use crate::Kept;
 use crate::slots::Slot;
-use crate::trees::is_scroller;
-use block_layout::{BoxOf, Styled};
+use block_layout::{BoxOf, Styled, is_scroll_container};
 use element_tree::{NodeId, Tree};
 use layout_model::capped;
 use positioned_layout::{Holder, flat_place, holder_of};
@@ -93,7 +92,7 @@ fn scroll_of<P: Styled, O: Offsets>(tree: &Tree<P>, offsets: &O, node: NodeId) -
     ensures across { result.across ≤ 2147483647 }
     ensures down { result.down ≤ 2147483647 }
 {
-    if is_scroller(tree, node) {
+    if is_scroll_container(tree, node) {
         unsigned(offsets.in_force(node))
     } else {
         Shift::NONE
@@ -150,8 +149,8 @@ fn moved_back(place: Point, inner: Shift, view: Shift) -> Point
 
 impl Kept {
     /// From the corner of the parent's border box to where the node's own is in the flow, or would be, and for a root element from the
-    /// viewport's corner (CSS 2.2, 8.1 and 9.4.1), where nothing is scrolled. It is so where the node has a box, and its own and those
-    /// of its ancestors are held as they are now. It reads its own box and its parent's alone.
+    /// viewport's corner (CSS 2.2, 8.1 and 9.4.1), where nothing is scrolled. Exact as long as the node has a box, and the boxes of the
+    /// node and its ancestors are up to date (`refresh`). It reads the boxes of the node and its parent alone.
     pub fn shift<P: Styled>(&self, tree: &Tree<P>, node: NodeId) -> Shift
         ensures value { let at = layout_tree P.style P.kind tree.now.nodes in (view : View) →
             IsFreshPath at view (slot_in self.now) node.0 → (result.across, result.down) ≡ offset_of at view node.0 }
@@ -173,9 +172,9 @@ impl Kept {
         }
     }
 
-    /// The place of a node's border box in its document's viewport, each scroll offset taken as 0 (CSS 2.2, 9.4 and 10; CSS
-    /// Positioned Layout 3, 2 and 3). It is so where the node has a box, and its own and those of its ancestors are held as they are
-    /// now in a viewport whose lengths are at most the largest one. It reads boxes of the node and its ancestors alone, and no siblings'.
+    /// The place of a node's border box in its document's viewport, each scroll offset taken as 0 (CSS 2.2, 9.4 and 10; CSS Positioned
+    /// Layout 3, 2 and 3). Exact as long as the node has a box, and the boxes of the node and its ancestors are up to date (`refresh`) in a
+    /// viewport whose lengths are at most the largest one. It reads the boxes of the node and its ancestors alone.
     pub fn flat_place_of<P: Styled>(&self, tree: &Tree<P>, node: NodeId) -> Point
         ensures value { let at = layout_tree P.style P.kind tree.now.nodes in (view : View) → IsSized view →
             IsFreshPath at view (slot_in self.now) node.0 → result ≡ point_of (flat_place at view node.0) }
@@ -190,10 +189,10 @@ impl Kept {
         }
     }
 
-    /// The place of a node's border box in its document's viewport, whose scroll offset is `view`, where the elements that hold it
-    /// are scrolled so far (CSS 2.2, 9.4.1 and 10.1; CSSOM View, 6). It is so where the node has a box, and its own and those of its
-    /// ancestors are held as they are now, as a `refresh` of the tree leaves them, in a viewport whose lengths are at most the
-    /// largest one. It reads boxes of the node and its ancestors alone, and no siblings'.
+    /// The place of a node's border box in its document's viewport, whose scroll offset is `view`, where the elements that hold it are
+    /// scrolled so far (CSS 2.2, 9.4.1 and 10.1; CSSOM View, 6). Exact as long as the node has a box, and the boxes of the node and its
+    /// ancestors are up to date (`refresh`) in a viewport whose lengths are at most the largest one. It reads the boxes of the node and its
+    /// ancestors alone.
     pub fn place_of<P: Styled, O: Offsets>(
         &self,
         tree: &Tree<P>,

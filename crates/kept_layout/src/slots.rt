@@ -24,7 +24,7 @@ pub struct Found {
 /// What is kept for a node.
 #[derive(Clone, Copy)]
 pub struct Slot {
-    /// Whether something that the box rests on may have changed since it was computed.
+    /// Whether something that the box depends on may have changed since it was computed.
     pub marked: bool,
     /// The margin box heights of the earlier siblings in flow, at most 2,147,483,647 units. It says nothing at a root element.
     pub above: u64,
@@ -99,7 +99,7 @@ pub(crate) fn set_mark(slots: &mut [Slot], node: NodeId)
     );
 }
 
-// Puts the box of a node below so much height.
+// Sets the height that is stacked above a node.
 pub(crate) fn set_above(slots: &mut [Slot], node: NodeId, above: u64)
     ensures own { node.0 < length slots.old → slot_in slots.new node.0 ≡ with_above above (slot_in slots.old node.0) }
     ensures others { (n : ℕ) → n ≢ node.0 → slot_in slots.new n ≡ slot_in slots.old n }
@@ -126,7 +126,7 @@ fn outer_height(own: &BoxOf) -> u64
     own.margin_height().unsigned_abs()
 }
 
-// Holds a box, which leaves its node without a mark.
+// Holds a box and clears the mark of its node.
 pub(crate) fn hold(slots: &mut [Slot], node: NodeId, found: Found)
     ensures own { node.0 < length slots.old → slot_in slots.new node.0 ≡ holding found.own found.inputs found.outside (slot_in slots.old node.0) }
     ensures others { (n : ℕ) → n ≢ node.0 → slot_in slots.new n ≡ slot_in slots.old n }
@@ -153,8 +153,8 @@ pub(crate) fn has_outside(slots: &[Slot], node: NodeId) -> bool
     }
 }
 
-// The inputs of boxes out of flow that a node's box holds: the size of its padding box. Where none is held, which isn't so of a node with
-// a box here, they are these.
+// The inputs of boxes out of flow that a node's box holds: the size of its padding box. Where no box is held, which isn't so once the
+// node's is computed, they are `or`.
 pub(crate) fn inputs_held(slots: &[Slot], node: NodeId, or: Inputs) -> Inputs
     ensures { IfSome (slot_in slots.now node.0).found (λ found. seen_inputs result ≡ inputs_held found.own) }
 {

@@ -2,7 +2,7 @@
 
 ghost use Rattle.std.specs.Prelude.{◌≡◌, ◌≢◌, ◌+◌, ◌<◌, ◌≤◌, ℕ, Bool, true, false, Option, Some, None, ◌||◌, length};
 ghost use Rattle.px_units.specs.Lengths.{cap};
-ghost use Rattle.layout_model.specs.Nodes.{is_in_path};
+ghost use Rattle.layout_model.specs.Nodes.{is_in_path, is_in_flow};
 ghost use Rattle.layout_model.specs.Boxes.{Inputs as InputsModel, box_in, inputs_in};
 ghost use Rattle.element_tree.specs.Forest.{IsForest, parent_of};
 ghost use Rattle.block_layout.specs.Seen.{seen_inputs};
@@ -16,15 +16,14 @@ ghost use Rattle.kept_layout.specs.Walks.{IsRefreshed, IsEntered, IsBroughtTo, I
 use crate::slots::{
     Found, Slot, has_outside, height_held, hold, inputs_held, is_due, set_above, set_mark,
 };
-use crate::trees::{first_inner, is_hidden, is_in_flow, position};
-use block_layout::{Inputs, Styled, child_inputs, compute_box};
+use block_layout::{Inputs, Styled, child_inputs, compute_box, first_inner, is_hidden};
 use element_tree::{NodeId, Tree};
 use layout_model::capped;
+use positioned_layout::position;
 use std::sync::ledger::Ledger;
 use step_count::Steps;
 use style_values::Position;
 
-// Marks a node and its ancestors.
 pub(crate) fn mark_path<P: Styled>(slots: &mut [Slot], tree: &Tree<P>, node: NodeId)
     ensures marks { (m : ℕ) → m < length slots.old → slot_in slots.new m ≡ marked_if (is_in_path (layout_tree P.style P.kind tree.now.nodes) m node.0) (slot_in slots.old m) }
     ensures mended { ((m : ℕ) → is_in_path (layout_tree P.style P.kind tree.now.nodes) m node.0 ≡ true → m < length slots.old) →
@@ -39,7 +38,7 @@ pub(crate) fn mark_path<P: Styled>(slots: &mut [Slot], tree: &Tree<P>, node: Nod
     }
 }
 
-// A capped sum of heights, with one more.
+// A sum of heights with one more, capped.
 fn added(above: u64, height: u64) -> u64
     requires above { above ≤ 2147483647 }
     requires height { height ≤ 20000000000 }
@@ -47,6 +46,16 @@ fn added(above: u64, height: u64) -> u64
     ensures bound { result ≤ 2147483647 }
 {
     capped(above + height)
+}
+
+fn is_in_flow<P: Styled>(tree: &Tree<P>, node: NodeId) -> bool
+    requires { node.0 < length tree.now.nodes }
+    ensures { result ≡ is_in_flow (layout_tree P.style P.kind tree.now.nodes node.0) }
+{
+    match position(tree, node) {
+        Position::Static | Position::Relative => true,
+        Position::Absolute | Position::Fixed => false,
+    }
 }
 
 // Computes the boxes of a node with these inputs and in flow in it that are due, and holds them; it enters no box out of flow, but
@@ -120,7 +129,7 @@ fn refresh_moved<P: Styled, L: Ledger>(
     }
 }
 
-// What is brought on to a child whose box is held: a positioned one holds absolute boxes itself.
+// The inputs of boxes out of flow in a child whose box is held: a positioned child holds absolute boxes itself.
 fn brought_to<P: Styled>(slots: &[Slot], tree: &Tree<P>, node: NodeId, outside: Outside) -> Outside
     requires { node.0 < length tree.now.nodes }
     ensures { IsBroughtTo (layout_tree P.style P.kind tree.now.nodes) node.0 outside result (slot_in slots.now) }
@@ -134,8 +143,8 @@ fn brought_to<P: Styled>(slots: &[Slot], tree: &Tree<P>, node: NodeId, outside: 
     }
 }
 
-// Computes the boxes in a node that are due but for those in flow from it on, by preorder: each box out of flow with what is in flow in
-// it. So what holds a box, which is an ancestor, is computed before.
+// Computes the boxes out of flow in a node that are due, by preorder, each with what is in flow in it. So the box that holds one, which is
+// an ancestor's, is computed before it.
 pub(crate) fn refresh_inside<P: Styled, L: Ledger>(
     slots: &mut [Slot],
     tree: &Tree<P>,

@@ -16,7 +16,7 @@ use Rattle.media_queries.proofs.SteadyJoined.{longer, shown_some, value_of}
 use Rattle.media_queries.proofs.SteadyQueries.{queries, query_steady}
 
 -- what a reader of a whole list answers
-abbrev Answer : Type 0
+abbrev pub Answer : Type 0
 Answer = Result (List MediaQuery) ℕ
 
 -- A list without counted turns: a query, and behind a comma a list again.
@@ -25,10 +25,10 @@ abbrev after : List ℕ → Answer
 after text = byte_at 44 text >>= λ rest. queries_at (skip rest)
 
 -- what may follow a query
-follows : List ℕ → Answer
+pub follows : List ℕ → Answer
 follows text = cond (is_empty text) (Ok []) (after (skip text))
 
-abbrev joined : Read MediaQuery → (List ℕ → Answer) → Answer
+abbrev pub joined : Read MediaQuery → (List ℕ → Answer) → Answer
 joined read others = read >>= λ query. others query.1 >>= λ more. Ok (query.0 ∷ more)
 
 abbrev added : MediaQuery → Answer → Answer
@@ -39,7 +39,7 @@ same_joined : (read : Read MediaQuery) (n : ℕ) (one two : List ℕ → Answer)
 same_joined (Ok x) n one two short same = ap (λ (r : Answer). r >>= λ more. Ok (x.0 ∷ more)) (same x.1 short)
 same_joined (Err k) n one two short same = refl
 
-query_short : (text : List ℕ) → OnValue (λ r. length r.1 ≤ length text) (query_at text)
+pub query_short : (text : List ℕ) → OnValue (λ r. length r.1 ≤ length text) (query_at text)
 query_short text = weaker_on _ (λ r. length r.1 ≤ length text) (query_at text) (query_shown text) (λ r h. let short = h.shorter in omega (arith, short))
 
 abbrev commas : (List ℕ → Answer) → List ℕ → Answer
@@ -50,7 +50,7 @@ same_commas : (read : Result (List ℕ) ℕ) (n : ℕ) (one two : List ℕ → A
 same_commas (Ok rest) n one two short same = same rest short
 same_commas (Err k) n one two short same = refl
 
-comma_short : (text : List ℕ) → OnValue (λ rest. length rest < length text) (byte_at 44 (skip text))
+pub comma_short : (text : List ℕ) → OnValue (λ rest. length rest < length text) (byte_at 44 (skip text))
 comma_short text = weaker_on (Leaves 1 (skip text)) (λ rest. length rest < length text) (byte_at 44 (skip text)) (byte_leaves 44 (skip text)) (λ rest h. omega (arith, h, skip_leaves text))
 
 -- more turns than the text has bytes make no difference
@@ -76,7 +76,7 @@ more_is fuel text h =
     (λ rest short. same_joined (query_at (skip rest)) (length (skip rest)) (more_queries_at fuel) (more_queries_at (suc (length (skip rest)))) (query_short (skip rest))
     (λ t le. more_same fuel (suc (length (skip rest))) t (omega (arith, skip_leaves rest)) (omega arith)) ∙ sym (list_is (skip rest))))
 
-queries_are : (text : List ℕ) → queries_at text ≡ joined (query_at text) follows
+pub queries_are : (text : List ℕ) → queries_at text ≡ joined (query_at text) follows
 queries_are text =
     list_is text ∙ same_joined (query_at text) (length text) (more_queries_at (suc (length text))) follows (query_short text) (λ t le. more_is (length text) t (omega arith))
 

@@ -1,12 +1,14 @@
--- The loop over queries, and the one that copies them, a step at a time.
-use Rattle.std.proofs.Common.{◌≡◌, ℕ, suc, ◌+◌, ◌-◌, ◌<◌, ◌≤◌, Bool, true, false, cond, List, [], ◌∷◌, ◌++◌, length, refl, sym, ◌∙◌, ap, append_assoc, arith}
+-- The loop over queries, a step at a time.
+use Rattle.std.proofs.Common.{◌≡◌, ℕ, ◌<◌, ◌≤◌, Bool, true, false, cond, List, [], ◌∷◌, ◌++◌, length, refl, sym, ◌∙◌, ap, subst, append_assoc, arith}
 use Rattle.std.specs.Prelude.{Result, Ok, Err}
 use Rattle.std.proofs.lemmas.List.{append-nil}
 use Rattle.script_model.specs.Readers.{◌>>=◌, is_empty}
 use Rattle.script_model.specs.Queries.{MediaQuery}
-use Rattle.script_model.specs.Media.{Read, byte_at, skip, query_at, more_queries_at, queries_at}
+use Rattle.script_model.specs.Media.{Read, byte_at, skip, query_at, queries_at}
 use Rattle.media_queries.specs.Seen.{next_of}
-use Rattle.media_queries.proofs.Turns.{one_less, from_first}
+use Rattle.media_queries.proofs.Columns.{Answer, joined, follows, queries_are, query_short, comma_short}
+use Rattle.media_queries.proofs.Readings.{OnValue, then_on, weaker_on}
+use Rattle.media_queries.proofs.ShortLengths.{skip_leaves}
 
 -- the same behind these queries
 abbrev pub listed : List MediaQuery → Result (List MediaQuery) ℕ → Result (List MediaQuery) ℕ
@@ -17,66 +19,55 @@ listed_one : (queries : List MediaQuery) (query : MediaQuery) (read : Result (Li
 listed_one queries query (Ok others) = ap (λ (qs : List MediaQuery). Ok qs) (sym (append_assoc queries (query ∷ []) others))
 listed_one queries query (Err left) = refl
 
-regrouped : (fuel : ℕ) (comma : Result (List ℕ) ℕ)
-    → (comma >>= λ rest. query_at (skip rest) >>= λ query. more_queries_at fuel query.1 >>= λ others. Ok (query.0 ∷ others))
-    ≡ ((comma >>= λ rest. query_at (skip rest)) >>= λ query. more_queries_at fuel query.1 >>= λ others. Ok (query.0 ∷ others))
-regrouped fuel (Ok rest) = refl
-regrouped fuel (Err left) = refl
+regrouped : (comma : Result (List ℕ) ℕ) → (comma >>= λ rest. queries_at (skip rest)) ≡ joined (comma >>= λ rest. query_at (skip rest)) follows
+regrouped (Ok rest) = queries_are (skip rest)
+regrouped (Err left) = refl
 
-queries_are : (fuel : ℕ) (text : List ℕ) (ends : Bool) (read : Read MediaQuery) → ends ≡ is_empty text → read ≡ next_of text
-    → more_queries_at (suc fuel) text ≡ cond ends (Ok []) (read >>= λ query. more_queries_at fuel query.1 >>= λ others. Ok (query.0 ∷ others))
-unfolding more_queries_at
-queries_are fuel text ends read e r =
-    ap (λ (x : Result (List MediaQuery) ℕ). cond (is_empty text) (Ok []) x) (regrouped fuel (byte_at 44 (skip text)))
-    ∙ ap (λ c. cond c (Ok []) (next_of text >>= λ query. more_queries_at fuel query.1 >>= λ others. Ok (query.0 ∷ others))) (sym e)
-    ∙ ap (λ (x : Read MediaQuery). cond ends (Ok []) (x >>= λ query. more_queries_at fuel query.1 >>= λ others. Ok (query.0 ∷ others))) (sym r)
+follows_step : (text : List ℕ) → follows text ≡ cond (is_empty text) (Ok []) (joined (next_of text) follows)
+unfolding follows
+follows_step text = ap (λ (r : Answer). cond (is_empty text) (Ok []) r) (regrouped (byte_at 44 (skip text)))
 
-list_step : (turns i : ℕ) (text : List ℕ) (ends : Bool) (read : Read MediaQuery) (queries : List MediaQuery) (whole : Result (List MediaQuery) ℕ) → i < turns
-    → listed queries (more_queries_at (turns - i) text) ≡ whole → ends ≡ is_empty text → read ≡ next_of text
-    → listed queries (cond ends (Ok []) (read >>= λ query. more_queries_at (turns - (i + 1)) query.1 >>= λ others. Ok (query.0 ∷ others))) ≡ whole
-list_step turns i text ends read queries whole within so e r =
-    ap (listed queries) (sym (queries_are (turns - (i + 1)) text ends read e r))
-    ∙ ap (λ n. listed queries (more_queries_at n text)) (sym (one_less turns i within)) ∙ so
+nothing_left : (text : List ℕ) → length text ≤ 0 → true ≡ is_empty text
+unfolding is_empty
+nothing_left [] none = refl
+nothing_left (b ∷ bs) none = absurd (omega arith)
 
-pub list_first : (text rest : List ℕ) (first : MediaQuery) → query_at text ≡ Ok (first, rest)
-    → listed (first ∷ []) (more_queries_at (length text + 1 - 0) rest) ≡ queries_at text
-unfolding queries_at
-list_first text rest first e =
-    ap (λ n. listed (first ∷ []) (more_queries_at n rest)) (from_first (length text))
-    ∙ ap (λ (x : Read MediaQuery). x >>= λ query. more_queries_at (suc (length text)) query.1 >>= λ others. Ok (query.0 ∷ others)) (sym e)
+some_left : (text : List ℕ) → 0 < length text → false ≡ is_empty text
+unfolding is_empty
+some_left [] some = absurd (omega arith)
+some_left (b ∷ bs) some = refl
+
+next_step : (text : List ℕ) (ends : Bool) (read : Read MediaQuery) (queries : List MediaQuery) (whole : Answer) → listed queries (follows text) ≡ whole
+    → ends ≡ is_empty text → read ≡ next_of text → listed queries (cond ends (Ok []) (joined read follows)) ≡ whole
+next_step text ends read queries whole so e r =
+    ap (λ c. listed queries (cond c (Ok []) (joined read follows))) e
+    ∙ ap (λ (x : Read MediaQuery). listed queries (cond (is_empty text) (Ok []) (joined x follows))) r
+    ∙ ap (listed queries) (sym (follows_step text)) ∙ so
+
+pub list_first : (text rest : List ℕ) (first : MediaQuery) → query_at text ≡ Ok (first, rest) → listed (first ∷ []) (follows rest) ≡ queries_at text
+list_first text rest first e = ap (λ (x : Read MediaQuery). joined x follows) (sym e) ∙ sym (queries_are text)
 
 pub first_fails : (text : List ℕ) (left : ℕ) → query_at text ≡ Err left → queries_at text ≡ Err left
-unfolding queries_at
-first_fails text left e =
-    ap (λ (x : Read MediaQuery). x >>= λ query. more_queries_at (suc (length text)) query.1 >>= λ others. Ok (query.0 ∷ others)) e
+first_fails text left e = queries_are text ∙ ap (λ (x : Read MediaQuery). joined x follows) e
 
-pub list_stops : (turns i : ℕ) (text : List ℕ) (queries : List MediaQuery) (whole : Result (List MediaQuery) ℕ) → i < turns
-    → listed queries (more_queries_at (turns - i) text) ≡ whole → true ≡ is_empty text → whole ≡ Ok queries
-list_stops turns i text queries whole within so e =
-    sym (list_step turns i text true (next_of text) queries whole within so e refl)
+pub list_stops : (text : List ℕ) (queries : List MediaQuery) (whole : Answer) → listed queries (follows text) ≡ whole → length text ≤ 0 → whole ≡ Ok queries
+list_stops text queries whole so none =
+    sym (next_step text true (next_of text) queries whole so (nothing_left text none) refl)
     ∙ ap (λ (qs : List MediaQuery). Ok qs) (append-nil queries)
 
-pub list_on : (turns i : ℕ) (text rest : List ℕ) (query : MediaQuery) (queries : List MediaQuery) (whole : Result (List MediaQuery) ℕ) → i < turns
-    → listed queries (more_queries_at (turns - i) text) ≡ whole → false ≡ is_empty text → next_of text ≡ Ok (query, rest)
-    → listed (queries ++ query ∷ []) (more_queries_at (turns - (i + 1)) rest) ≡ whole
-list_on turns i text rest query queries whole within so e r =
-    sym (listed_one queries query (more_queries_at (turns - (i + 1)) rest))
-    ∙ list_step turns i text false (Ok (query, rest)) queries whole within so e (sym r)
+pub list_on : (text rest : List ℕ) (query : MediaQuery) (queries : List MediaQuery) (whole : Answer) → listed queries (follows text) ≡ whole
+    → 0 < length text → next_of text ≡ Ok (query, rest) → listed (queries ++ query ∷ []) (follows rest) ≡ whole
+list_on text rest query queries whole so some r =
+    sym (listed_one queries query (follows rest)) ∙ next_step text false (Ok (query, rest)) queries whole so (some_left text some) (sym r)
 
-pub list_fails : (turns i left : ℕ) (text : List ℕ) (queries : List MediaQuery) (whole : Result (List MediaQuery) ℕ) → i < turns
-    → listed queries (more_queries_at (turns - i) text) ≡ whole → false ≡ is_empty text → next_of text ≡ Err left → whole ≡ Err left
-list_fails turns i left text queries whole within so e r =
-    sym (list_step turns i text false (Err left) queries whole within so e (sym r))
+pub list_fails : (left : ℕ) (text : List ℕ) (queries : List MediaQuery) (whole : Answer) → listed queries (follows text) ≡ whole
+    → 0 < length text → next_of text ≡ Err left → whole ≡ Err left
+list_fails left text queries whole so some r = sym (next_step text false (Err left) queries whole so (some_left text some) (sym r))
 
-queries_none : (text : List ℕ) → more_queries_at 0 text ≡ Ok []
-unfolding more_queries_at
-queries_none text = refl
+next_short : (text : List ℕ) → OnValue (λ r. length r.1 < length text) (next_of text)
+next_short text =
+    then_on (λ rest. length rest < length text) (λ r. length r.1 < length text) (byte_at 44 (skip text)) (λ rest. query_at (skip rest)) (comma_short text)
+    (λ rest h. weaker_on _ (λ r. length r.1 < length text) (query_at (skip rest)) (query_short (skip rest)) (λ r g. omega (arith, g, h, skip_leaves rest)))
 
-no_more : (turns i : ℕ) → turns ≤ i → turns - i ≡ 0
-no_more turns i all = omega arith
-
-pub list_ends : (turns i : ℕ) (text : List ℕ) (queries : List MediaQuery) (whole : Result (List MediaQuery) ℕ) → turns ≤ i
-    → listed queries (more_queries_at (turns - i) text) ≡ whole → whole ≡ Ok queries
-list_ends turns i text queries whole all so =
-    sym so ∙ ap (λ n. listed queries (more_queries_at n text)) (no_more turns i all) ∙ ap (listed queries) (queries_none text)
-    ∙ ap (λ (qs : List MediaQuery). Ok qs) (append-nil queries)
+pub next_shorter : (text rest : List ℕ) (query : MediaQuery) → next_of text ≡ Ok (query, rest) → length rest < length text
+next_shorter text rest query r = subst (OnValue (λ r. length r.1 < length text)) r (next_short text)

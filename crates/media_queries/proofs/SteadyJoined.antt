@@ -278,7 +278,7 @@ more_steady (suc fuel) byte word joint =
 shorter_than : (n m : ℕ) (read : Read Feature) → OnValue (λ r. length r.1 < n) read → n ≤ m → OnValue (λ r. length r.1 < m) read
 shorter_than n m read h le = weaker_on (λ r. length r.1 < n) (λ r. length r.1 < m) read h (λ r g. omega arith)
 
-joined_short : (joint text : List ℕ) → OnValue (λ r. length r.1 < length text) (joined_at joint text)
+pub joined_short : (joint text : List ℕ) → OnValue (λ r. length r.1 < length text) (joined_at joint text)
 joined_short joint text =
     weaker_on _ (λ r. length r.1 < length text) (joined_at joint text) (joined_shown joint text) (λ r h. omega (arith, h.1))
 
@@ -337,7 +337,7 @@ settled_more (suc fuel) (suc again) joint text le =
     stops_now (query_ends text) joint text (then_others fuel joint (joined_at joint text)) (then_others again joint (joined_at joint text))
     (settled_after joint fuel again (joined_at joint text) (λ rest. settled_more fuel again joint rest (omega arith)))
 
-others_are : (fuel : ℕ) (joint text : List ℕ) → length text < fuel → others_at joint text ≡ more_at fuel joint text
+pub others_are : (fuel : ℕ) (joint text : List ℕ) → length text < fuel → others_at joint text ≡ more_at fuel joint text
 unfolding others_at
 others_are fuel joint text h = more_same (suc (length text)) fuel joint text (omega arith) h
 

@@ -3,6 +3,3 @@ use Rattle.std.proofs.Common.{◌≡◌, ℕ, suc, ◌+◌, ◌-◌, ◌<◌, ar
 
 pub one_less : (turns i : ℕ) → i < turns → turns - i ≡ suc (turns - (i + 1))
 one_less turns i within = omega arith
-
-pub from_first : (turns : ℕ) → turns + 1 - 0 ≡ suc turns
-from_first turns = omega arith

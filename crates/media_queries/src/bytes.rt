@@ -1,8 +1,6 @@
 //! Readers of single bytes and words.
 
 ghost use Rattle.std.specs.Prelude.{◌≡◌};
-ghost use Rattle.word_model.specs.Numbers.{begins_with};
-ghost use Rattle.script_model.specs.Readers.{is_empty};
 ghost use Rattle.script_model.specs.Media.{byte_at, word_at, is_blank, skip, gap_at, colon_at};
 ghost use Rattle.media_queries.specs.Seen.{rest_of};
 
@@ -11,28 +9,6 @@ ghost use Rattle.media_queries.specs.Seen.{rest_of};
 pub struct Stopped {
     /// The number of bytes that are left there; 0 is the end of the text.
     pub left: usize,
-}
-
-/// Whether the text begins with this byte.
-#[tactic(auto, unfolding(word_model::specs::Numbers::begins_with))]
-pub fn begins_with(byte: u8, text: &[u8]) -> bool
-    ensures { result ≡ begins_with byte text.now }
-{
-    match text {
-        [first, ..] => *first == byte,
-        [] => false,
-    }
-}
-
-/// Whether no byte is left.
-#[tactic(auto, unfolding(script_model::specs::Readers::is_empty))]
-pub fn is_end(text: &[u8]) -> bool
-    ensures { result ≡ is_empty text.now }
-{
-    match text {
-        [_, ..] => false,
-        [] => true,
-    }
 }
 
 /// What stands behind this byte.
@@ -83,7 +59,7 @@ pub fn skip(text: &[u8]) -> &[u8]
     &[]
 }
 
-/// What stands behind one or more.
+/// What stands behind one or more spaces and tabs.
 #[tactic(auto, unfolding(script_model::specs::Media::gap_at))]
 pub fn gap_at(text: &[u8]) -> Result<&[u8], Stopped>
     ensures { rest_of result ≡ gap_at text.now }

@@ -4,8 +4,9 @@ ghost use Rattle.std.specs.Prelude.{◌≡◌};
 ghost use Rattle.script_model.specs.Media.{dimension_at, sized_at, bounded_at, oriented_at, tested_at, feature_at};
 ghost use Rattle.media_queries.specs.Seen.{comparison_of, sized_of, orientation_of, feature_of, read_of};
 
-use crate::bytes::{Stopped, begins_with, byte_at, colon_at, skip, word_at};
+use crate::bytes::{Stopped, byte_at, colon_at, skip, word_at};
 use crate::lengths::length_at;
+use word_model::begins_with;
 
 /// How a dimension of the viewport is compared with a length.
 #[derive(Clone, Copy)]
@@ -41,7 +42,7 @@ pub enum Feature {
 fn dimension_at(compared: Comparison, text: &[u8]) -> Result<(Dimension, &[u8]), Stopped>
     ensures { read_of (sized_of (comparison_of compared)) result ≡ dimension_at (comparison_of compared) text.now }
 {
-    if begins_with(b'w', text) {
+    if begins_with(text, b'w') {
         return Ok((Dimension::Width, word_at(b"width", text)?));
     }
     Ok((Dimension::Height, word_at(b"height", text)?))
@@ -63,7 +64,7 @@ fn bounded_at(text: &[u8]) -> Result<(Feature, &[u8]), Stopped>
     ensures { read_of feature_of result ≡ bounded_at text.now }
 {
     let rest = byte_at(b'm', text)?;
-    if begins_with(b'i', rest) {
+    if begins_with(rest, b'i') {
         return sized_at(Comparison::AtLeast, word_at(b"in-", rest)?);
     }
     sized_at(Comparison::AtMost, word_at(b"ax-", rest)?)
@@ -75,7 +76,7 @@ fn oriented_at(text: &[u8]) -> Result<(Feature, &[u8]), Stopped>
 {
     let name = word_at(b"orientation", text)?;
     let value = colon_at(name)?;
-    if begins_with(b'p', value) {
+    if begins_with(value, b'p') {
         return Ok((
             Feature::Oriented(Orientation::Portrait),
             word_at(b"portrait", value)?,
@@ -91,10 +92,10 @@ fn oriented_at(text: &[u8]) -> Result<(Feature, &[u8]), Stopped>
 fn tested_at(text: &[u8]) -> Result<(Feature, &[u8]), Stopped>
     ensures { read_of feature_of result ≡ tested_at text.now }
 {
-    if begins_with(b'm', text) {
+    if begins_with(text, b'm') {
         return bounded_at(text);
     }
-    if begins_with(b'o', text) {
+    if begins_with(text, b'o') {
         return oriented_at(text);
     }
     sized_at(Comparison::Exactly, text)

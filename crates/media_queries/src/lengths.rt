@@ -4,7 +4,8 @@ ghost use Rattle.std.specs.Prelude.{◌≡◌, ◌≤◌, if◌then◌else◌, S
 ghost use Rattle.script_model.specs.Media.{with_digit, is_digit_under, digit_at, digits_at, whole_at, hundredths_at, fraction_at, length_at};
 ghost use Rattle.media_queries.specs.Seen.{read_of};
 
-use crate::bytes::{Stopped, begins_with, byte_at, word_at};
+use crate::bytes::{Stopped, byte_at, word_at};
+use word_model::{begins_with, is_digit};
 
 /// The number with this digit behind it, none where the byte is no digit or the number would be above the largest.
 fn with_digit(most: u64, value: u64, byte: u8) -> Option<u64>
@@ -13,7 +14,7 @@ fn with_digit(most: u64, value: u64, byte: u8) -> Option<u64>
     ensures value { result ≡ (if is_digit_under most value byte then Some (with_digit value byte) else None) }
     ensures bound { IfSome result (λ number. number ≤ most) }
 {
-    if !word_model::is_digit(byte) {
+    if !is_digit(byte) {
         return None;
     }
     let number = value * 10 + u64::from(byte - b'0');
@@ -40,7 +41,7 @@ fn digit_at(most: u64, value: u64, text: &[u8]) -> Result<(u64, &[u8]), Stopped>
     }
 }
 
-/// The same with up to so many more digits.
+/// The number that this one gives with up to `places` more digits, and what stands behind them.
 #[tactic(auto, using(crate::proofs::Digits::digits_on, crate::proofs::Digits::digits_stop, crate::proofs::Digits::digits_end))]
 fn digits_at(places: usize, most: u64, first: u64, text: &[u8]) -> (u64, &[u8])
     requires largest { most ≤ 100000000 }
@@ -95,7 +96,7 @@ fn fraction_at(whole: u64, text: &[u8]) -> Result<(u64, &[u8]), Stopped>
     ensures value { read_of (λ number. number) result ≡ fraction_at whole text.now }
     ensures bound { IfOk result (λ read. read.0 ≤ 100000000) }
 {
-    if !begins_with(b'.', text) {
+    if !begins_with(text, b'.') {
         return Ok((whole * 100, text));
     }
     let rest = byte_at(b'.', text)?;

@@ -19,6 +19,7 @@ use crate::queries::{MediaQuery, ReadFault};
 use px_units::Size;
 use std::alloc::{AllocError, Global};
 use std::marker::Model;
+pub use texts::push_length;
 use thiserror::Error;
 
 /// A media query list.
@@ -42,9 +43,9 @@ impl Model for Query {
 pub enum QueryFault {
     /// The column of the first byte with which the text so far begins no list, from 1; one past the end of the text
     /// where the whole text begins a longer list.
-    #[error("BadQuery")]
+    #[error("column {column}: not a media query list")]
     BadQuery { column: u32 },
-    #[error("Memory")]
+    #[error("out of memory")]
     Memory,
 }
 

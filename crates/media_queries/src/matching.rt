@@ -63,7 +63,7 @@ fn medium_matches(medium: MediaType) -> bool
     !matches!(medium, MediaType::Print)
 }
 
-/// `not` turns a query round, `only` has no effect.
+/// `not` negates a query, `only` has no effect.
 fn turned(before: Prefix, holds: bool) -> bool
     ensures { result ≡ turned (prefix_of before) holds }
 {

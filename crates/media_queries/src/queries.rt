@@ -4,9 +4,10 @@ ghost use Rattle.std.specs.Prelude.{◌≡◌, map, IfOk};
 ghost use Rattle.script_model.specs.Media.{medium_at, query_ends, joined_at, others_at, typed_at, all_at, any_at, features_from, condition_at, not_feature_at, not_at, only_at, query_at, queries_at};
 ghost use Rattle.media_queries.specs.Seen.{medium_of, prefix_of, feature_of, query_of, next_of, read_of, Reads, ReadsAll};
 
-use crate::bytes::{Stopped, begins_with, byte_at, gap_at, is_end, skip, word_at};
+use crate::bytes::{Stopped, byte_at, gap_at, skip, word_at};
 use crate::features::{Feature, feature_at};
 use std::alloc::{AllocError, AllocFailed, Global};
+use word_model::begins_with;
 
 #[derive(Clone, Copy)]
 pub enum MediaType {
@@ -79,10 +80,10 @@ impl<T: Drop> From<AllocFailed<T>> for ReadFault {
 fn medium_at(text: &[u8]) -> Result<(MediaType, &[u8]), Stopped>
     ensures { read_of medium_of result ≡ medium_at text.now }
 {
-    if begins_with(b'a', text) {
+    if begins_with(text, b'a') {
         return Ok((MediaType::All, word_at(b"all", text)?));
     }
-    if begins_with(b's', text) {
+    if begins_with(text, b's') {
         return Ok((MediaType::Screen, word_at(b"screen", text)?));
     }
     Ok((MediaType::Print, word_at(b"print", text)?))
@@ -93,7 +94,7 @@ fn medium_at(text: &[u8]) -> Result<(MediaType, &[u8]), Stopped>
 fn query_ends(text: &[u8]) -> bool
     ensures { result ≡ query_ends text.now }
 {
-    text.is_empty() || begins_with(b',', skip(text))
+    text.is_empty() || begins_with(skip(text), b',')
 }
 
 /// `and` or `or` with the gaps around it, and a feature.
@@ -107,7 +108,7 @@ fn joined_at<'a>(joint: &[u8], text: &'a [u8]) -> Result<(Feature, &'a [u8]), St
 }
 
 /// The features that are so joined, up to the end of the query.
-#[tactic(auto, using(crate::proofs::Joined::more_first))]
+#[tactic(auto, using(crate::proofs::Joined::none_behind))]
 fn others_at<'a>(
     alloc: Global,
     joint: &[u8],
@@ -117,11 +118,7 @@ fn others_at<'a>(
 {
     let mut features = Vec::new(alloc);
     let mut rest = text;
-    // each turn reads a byte at least
-    for turn in 0..text.len() + 1 {
-        if query_ends(rest) {
-            return Ok((features, rest));
-        }
+    while !query_ends(rest) {
         let (feature, behind) = joined_at(joint, rest)?;
         features.push(feature)?;
         rest = behind;
@@ -164,7 +161,7 @@ fn features_from(
 ) -> Result<(MediaQuery, &[u8]), ReadFault>
     ensures { Reads query_of result (features_from (feature_of first) text.now) }
 {
-    if begins_with(b'o', skip(text)) {
+    if begins_with(skip(text), b'o') {
         any_at(alloc, first, text)
     } else {
         all_at(alloc, first, text)
@@ -193,7 +190,7 @@ fn not_at(alloc: Global, text: &[u8]) -> Result<(MediaQuery, &[u8]), ReadFault>
 {
     let next = word_at(b"not", text)?;
     let rest = gap_at(next)?;
-    if begins_with(b'(', rest) {
+    if begins_with(rest, b'(') {
         not_feature_at(rest)
     } else {
         typed_at(alloc, Prefix::Not, rest)
@@ -213,13 +210,13 @@ fn only_at(alloc: Global, text: &[u8]) -> Result<(MediaQuery, &[u8]), ReadFault>
 fn query_at(alloc: Global, text: &[u8]) -> Result<(MediaQuery, &[u8]), ReadFault>
     ensures { Reads query_of result (query_at text.now) }
 {
-    if begins_with(b'n', text) {
+    if begins_with(text, b'n') {
         return not_at(alloc, text);
     }
-    if begins_with(b'o', text) {
+    if begins_with(text, b'o') {
         return only_at(alloc, text);
     }
-    if begins_with(b'(', text) {
+    if begins_with(text, b'(') {
         return condition_at(alloc, text);
     }
     typed_at(alloc, Prefix::Absent, text)
@@ -238,14 +235,11 @@ fn next_query(alloc: Global, text: &[u8]) -> Result<(MediaQuery, &[u8]), ReadFau
 pub fn queries_at(alloc: Global, text: &[u8]) -> Result<Vec<MediaQuery>, ReadFault>
     ensures { ReadsAll (λ queries. map query_of queries.items) result (queries_at text.now) }
 {
-    let (first, mut rest) = query_at(alloc, text)?;
+    let (first, others) = query_at(alloc, text)?;
     let mut queries = Vec::new(alloc);
     queries.push(first)?;
-    // each turn reads a byte at least
-    for turn in 0..text.len() + 1 {
-        if is_end(rest) {
-            return Ok(queries);
-        }
+    let mut rest = others;
+    while !rest.is_empty() {
         let (query, behind) = next_query(alloc, rest)?;
         queries.push(query)?;
         rest = behind;

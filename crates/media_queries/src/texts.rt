@@ -45,9 +45,10 @@ fn push_whole(out: &mut Vec<u8>, pixels: u128) -> Result<(), AllocError>
     out.extend_from_slice(b"px")
 }
 
-/// Appends a length in units of 1/64 CSS pixel.
+/// Appends a length in units of 1/64 CSS pixel, as the shortest text that is read as it, the first of these in byte order. Where
+/// memory is refused, what stood there still begins the text.
 #[tactic(auto, unfolding(crate::specs::LengthText::length_text))]
-fn push_length(out: &mut Vec<u8>, length: u64) -> Result<(), AllocError>
+pub fn push_length(out: &mut Vec<u8>, length: u64) -> Result<(), AllocError>
     ensures ok { OnOk result (out.new.items ≡ out.old.items ++ length_text length) }
     ensures kept { Keeps out.old.items out.new.items }
 {

@@ -5,6 +5,7 @@ use Rattle.page_model.specs.Chains.{zero_rect}
 use Rattle.clip_chain.specs.declared.spot.Spot.{Spot}
 use Rattle.clip_chain.specs.declared.spot.Spot.TheVariants.{Node, View}
 use Rattle.clip_chain.specs.Scenes.{Scene}
+use Rattle.clip_chain.specs.Worlds.{view_spot}
 
 abbrev pub sides : ℕ → ℕ → ℕ → ℕ → Rect
 sides left top right bottom = record { left = pos left; top = pos top; right = pos right; bottom = pos bottom }
@@ -13,11 +14,11 @@ abbrev pub element : ℕ → Spot
 element number = Node (record { 0 = number })
 
 abbrev pub sample_container : Spot → Option Spot
-sample_container (View document) = cond (document == 1) (Some (element 2)) None
+sample_container (View document) = cond (document.0 == 1) (Some (element 2)) None
 sample_container (Node node) =
     cond
     (node.0 == 0)
-    (Some (View 0))
+    (Some (view_spot 0))
     (cond
     (node.0 == 1)
     (Some (element 0))
@@ -26,7 +27,7 @@ sample_container (Node node) =
     (Some (element 1))
     (cond
     (node.0 == 3)
-    (Some (View 1))
+    (Some (view_spot 1))
     (cond
     (node.0 == 4)
     (Some (element 3))
@@ -37,7 +38,7 @@ sample_container (Node node) =
 
 abbrev pub sample_clip : Spot → Option Rect
 sample_clip (View document) =
-    cond (document == 0) (Some (sides 0 0 800 600)) (cond (document == 1) (Some (sides 100 200 400 500)) None)
+    cond (document.0 == 0) (Some (sides 0 0 800 600)) (cond (document.0 == 1) (Some (sides 100 200 400 500)) None)
 sample_clip (Node node) =
     cond
     (node.0 == 1)
@@ -45,7 +46,7 @@ sample_clip (Node node) =
     (cond (node.0 == 4) (Some (sides 120 160 380 460)) (cond (node.0 == 6) (Some (sides 131 181 140 190)) None))
 
 abbrev pub sample_bounds : Spot → Rect
-sample_bounds (View document) = cond (document == 0) (sides 0 0 800 600) (cond (document == 1) (sides 100 200 400 500) zero_rect)
+sample_bounds (View document) = cond (document.0 == 0) (sides 0 0 800 600) (cond (document.0 == 1) (sides 100 200 400 500) zero_rect)
 sample_bounds (Node node) =
     cond
     (node.0 == 0)
@@ -85,7 +86,7 @@ sample = record {
 
 -- how far each stands within the top document
 abbrev pub sample_rank : Spot → ℕ
-sample_rank (View document) = cond (document == 1) 4 0
+sample_rank (View document) = cond (document.0 == 1) 4 0
 sample_rank (Node node) =
     cond
     (node.0 == 0)

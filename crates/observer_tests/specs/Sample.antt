@@ -6,7 +6,7 @@ use Rattle.px_units.specs.declared.Rect.{Rect}
 use Rattle.clip_chain.specs.declared.spot.Spot.{Spot}
 use Rattle.clip_chain.specs.declared.spot.Spot.TheVariants.{Node, View}
 use Rattle.clip_chain.specs.Scenes.{Scene}
-use Rattle.clip_chain.specs.Worlds.{element_spot}
+use Rattle.clip_chain.specs.Worlds.{element_spot, view_spot}
 use Rattle.kept_clips.specs.Held.{HeldClips}
 use Rattle.kept_clips.specs.Chains.{IsExact}
 use Rattle.candidate_index.specs.declared.scene.Standing.{Standing}
@@ -26,14 +26,14 @@ rect_of (left, top, width, height) = record {
 
 abbrev pub sample_container : Spot → Option Spot
 sample_container (View document) = None
-sample_container (Node node) = cond (node.0 == 0) (Some (View 0)) (Some (element_spot (node.0 / 2)))
+sample_container (Node node) = cond (node.0 == 0) (Some (view_spot 0)) (Some (element_spot (node.0 / 2)))
 
 abbrev pub sample_rank : Spot → ℕ
 sample_rank (View document) = 0
 sample_rank (Node node) = suc node.0
 
 abbrev pub sample_clip : List (Option Sides) → Sides → Spot → Option Rect
-sample_clip clips view (View document) = cond (document == 0) (Some (rect_of view)) None
+sample_clip clips view (View document) = cond (document.0 == 0) (Some (rect_of view)) None
 sample_clip clips view (Node node) = option_map rect_of (slice_index_or clips node.0 None)
 
 abbrev pub sample_box : List Sides → Sides → Spot → Rect

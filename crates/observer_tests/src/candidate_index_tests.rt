@@ -6,14 +6,13 @@ ghost use Rattle.clip_chain.specs.Worlds.{element_spot, spot_of_root};
 ghost use Rattle.clip_chain.specs.declared.spot.Spot.{Spot as SpotOf};
 ghost use Rattle.clip_chain.specs.Scenes.{Scene as SceneOf};
 ghost use Rattle.intersection_observer.specs.Places.{IsStanding};
-ghost use Rattle.intersection_observer.specs.Seen.{seen_root};
 ghost use Rattle.candidate_index.specs.Registrations.{observer_of, target_of, serials_at, IsReady};
 ghost use Rattle.observer_tests.specs.Sample.{sample, sample_standing, AreExact};
 
 use crate::common::{Page, Sides, change_clip, change_view, node, rect};
-use candidate_index::{Index, Standing};
+use candidate_index::{Index, Standing, spot_of_root};
 use clip_chain::{Spot, reaches};
-use element_tree::NodeId;
+use element_tree::{DocumentId, NodeId};
 use intersection_observer::{Finding, RegistrationId, Root, WatcherId, Watchers};
 use kept_clips::Clips;
 use std::alloc::Global;
@@ -33,8 +32,8 @@ const SECOND: WatcherId = WatcherId(1);
 // The registrations with their roots and targets: two of an observer of the top document, whose root is moved out by 64
 // units, and one of an observer of element 1.
 const REGISTRATIONS: [(u64, Spot, Spot); 3] = [
-    (0, Spot::View(0), Spot::Node(NodeId(7))),
-    (1, Spot::View(0), Spot::Node(NodeId(4))),
+    (0, Spot::View(DocumentId(0)), Spot::Node(NodeId(7))),
+    (1, Spot::View(DocumentId(0)), Spot::Node(NodeId(4))),
     (2, Spot::Node(NodeId(1)), Spot::Node(NodeId(6))),
 ];
 
@@ -150,7 +149,7 @@ fn make(
 {
     let margins = Margins::parse(margins)?;
     let thresholds = Thresholds::new(alloc, thresholds)?;
-    Ok(watchers.make(0, None, root, margins, thresholds)?)
+    Ok(watchers.make(DocumentId(0), None, root, margins, thresholds)?)
 }
 
 // Makes two observers with their targets.
@@ -163,16 +162,6 @@ fn make_two(alloc: Global, watchers: &mut Watchers) -> Result<(), Fail>
     watchers.observe(first, NodeId(4))?;
     watchers.observe(second, NodeId(6))?;
     Ok(())
-}
-
-fn spot_of_root(root: Root) -> Spot
-    ensures { result ≡ spot_of_root (seen_root root) }
-{
-    match root {
-        Root::Implicit => Spot::View(0),
-        Root::Document(document) => Spot::View(document),
-        Root::Node(node) => Spot::Node(node),
-    }
 }
 
 // The spots of an observer's root and of a target.
@@ -363,7 +352,7 @@ fn hold_pairs(rt: &impl Abort, clips: &mut Clips, index: &mut Index) -> Result<(
     ensures { (scene : SceneOf) → AreExact scene clips.old → AreExact scene clips.new }
 {
     clips.add(node(7))?;
-    clips.add(Spot::View(0))?;
+    clips.add(Spot::View(DocumentId(0)))?;
     for (number, root, of) in REGISTRATIONS {
         index.add(RegistrationId(number))?;
         assert!(rt; clips.pair(number).is_none());

@@ -4,9 +4,14 @@ ghost use Rattle.std.specs.Prelude.{◌≡◌, pos, Some};
 ghost use Rattle.observer_tests.specs.ChainSample.{sides, element};
 
 use clip_chain::{Geometry, Scrolls, Spot, Through, reaches, root_rect, visible_rect};
-use element_tree::NodeId;
+use element_tree::{DocumentId, NodeId};
 use px_units::Rect;
 use thresholds::{Margins, ThresholdFault};
+
+// The viewport of the page, and that of the document in the frame.
+const TOP: Spot = Spot::View(DocumentId(0));
+
+const FRAMED: Spot = Spot::View(DocumentId(1));
 
 // A page whose root element, 0, holds a scroller, 1. In it stand a frame, 2, and two boxes at its right edge: 7, which touches
 // it, and 8, which lies one unit beyond. The root element of the frame's document, 3, holds a scroller, 4, and in it an open
@@ -22,13 +27,13 @@ impl Geometry for Sample {
 
     fn container(&self, of: Spot) -> Option<Spot> {
         match of {
-            Spot::View(1) => Some(node(2)),
+            Spot::View(DocumentId(1)) => Some(node(2)),
             Spot::View(_) => None,
             Spot::Node(NodeId(number)) => match number {
-                0 => Some(Spot::View(0)),
+                0 => Some(TOP),
                 1 => Some(node(0)),
                 2 => Some(node(1)),
-                3 => Some(Spot::View(1)),
+                3 => Some(FRAMED),
                 4 => Some(node(3)),
                 5 => Some(node(4)),
                 6 => Some(node(5)),
@@ -40,8 +45,8 @@ impl Geometry for Sample {
 
     fn clip(&self, of: Spot) -> Option<Rect> {
         match of {
-            Spot::View(0) => Some(rect(0, 0, 800, 600)),
-            Spot::View(1) => Some(rect(100, 200, 400, 500)),
+            Spot::View(DocumentId(0)) => Some(rect(0, 0, 800, 600)),
+            Spot::View(DocumentId(1)) => Some(rect(100, 200, 400, 500)),
             Spot::View(_) => None,
             Spot::Node(NodeId(number)) => match number {
                 1 => Some(rect(10, 20, 410, 320)),
@@ -54,8 +59,8 @@ impl Geometry for Sample {
 
     fn bounds(&self, of: Spot) -> Rect {
         match of {
-            Spot::View(0) => rect(0, 0, 800, 600),
-            Spot::View(1) => rect(100, 200, 400, 500),
+            Spot::View(DocumentId(0)) => rect(0, 0, 800, 600),
+            Spot::View(DocumentId(1)) => rect(100, 200, 400, 500),
             Spot::View(_) => rect(0, 0, 0, 0),
             Spot::Node(NodeId(number)) => match number {
                 0 => rect(0, 0, 800, 2000),
@@ -130,12 +135,12 @@ fn scroll_margins_move_the_clips_of_scrollers(rt: HostRuntime) -> Result<(), Thr
     let wide = rect(0, 0, 1000, 1000);
     // 40 units at the outer scroller and 26 at the inner one, by their widths. The viewport of the frame's document stays.
     let rows = [
-        (node(6), Spot::View(0), Some(rect(130, 200, 400, 340))),
+        (node(6), TOP, Some(rect(130, 200, 400, 340))),
         (node(6), node(1), Some(rect(130, 200, 400, 340))),
-        (node(6), Spot::View(1), Some(rect(130, 180, 406, 340))),
+        (node(6), FRAMED, Some(rect(130, 180, 406, 340))),
         (node(6), node(4), Some(rect(130, 180, 600, 340))),
-        (node(7), Spot::View(0), Some(rect(410, 50, 450, 100))),
-        (node(8), Spot::View(0), Some(rect(411, 50, 450, 100))),
+        (node(7), TOP, Some(rect(410, 50, 450, 100))),
+        (node(8), TOP, Some(rect(411, 50, 450, 100))),
     ];
     for (target, root, want) in rows {
         assert_eq!(rt;
@@ -149,7 +154,7 @@ fn scroll_margins_move_the_clips_of_scrollers(rt: HostRuntime) -> Result<(), Thr
 
 #[test]
 fn scroll_margins_leave_the_root_alone(rt: HostRuntime) -> Result<(), ThresholdFault> {
-    for root in [Spot::View(0), Spot::View(1), node(1), node(4), node(5)] {
+    for root in [TOP, FRAMED, node(1), node(4), node(5)] {
         let view = Through {
             geometry: &Sample,
             root,
@@ -171,7 +176,7 @@ fn a_target_is_cut_by_each_clip_strictly_between(rt: HostRuntime) {
     let rows = [
         // By the scroller and the viewport of the frame's document, and by the outer scroller; neither its own clip nor the
         // boxes of open elements count.
-        (node(6), Spot::View(0), view, Some(rect(130, 200, 380, 320))),
+        (node(6), TOP, view, Some(rect(130, 200, 380, 320))),
         // The clip of the root isn't counted where limits are wider.
         (node(6), node(1), wide, Some(rect(130, 200, 380, 340))),
         (
@@ -182,29 +187,24 @@ fn a_target_is_cut_by_each_clip_strictly_between(rt: HostRuntime) {
         ),
         (node(6), node(2), wide, Some(rect(130, 200, 380, 340))),
         // The chain stops at the nested viewport, at the inner scroller, at the open box.
-        (node(6), Spot::View(1), wide, Some(rect(130, 180, 380, 340))),
+        (node(6), FRAMED, wide, Some(rect(130, 180, 380, 340))),
         (node(6), node(4), wide, Some(rect(130, 180, 600, 340))),
         (node(6), node(5), wide, Some(rect(130, 180, 600, 340))),
         // A frame and a nested viewport are targets too.
-        (node(2), Spot::View(0), view, Some(rect(100, 200, 400, 320))),
-        (
-            Spot::View(1),
-            Spot::View(0),
-            view,
-            Some(rect(100, 200, 400, 320)),
-        ),
+        (node(2), TOP, view, Some(rect(100, 200, 400, 320))),
+        (FRAMED, TOP, view, Some(rect(100, 200, 400, 320))),
         // An edge and a corner in common are enough; one unit apart is not.
-        (node(7), Spot::View(0), view, Some(rect(410, 50, 410, 100))),
+        (node(7), TOP, view, Some(rect(410, 50, 410, 100))),
         (
             node(7),
             node(1),
             rect(500, 100, 800, 600),
             Some(rect(500, 100, 500, 100)),
         ),
-        (node(8), Spot::View(0), view, None),
+        (node(8), TOP, view, None),
         (node(7), node(1), rect(501, 100, 800, 600), None),
         // Limits whose edges cross meet nothing.
-        (node(6), Spot::View(0), rect(301, 0, 299, 600), None),
+        (node(6), TOP, rect(301, 0, 299, 600), None),
     ];
     for (target, root, limits, want) in rows {
         assert_eq!(rt;
@@ -218,19 +218,19 @@ fn a_target_is_cut_by_each_clip_strictly_between(rt: HostRuntime) {
 #[test]
 fn a_root_is_reached_from_below_alone(rt: HostRuntime) {
     let rows = [
-        (node(6), Spot::View(0), true),
-        (node(6), Spot::View(1), true),
+        (node(6), TOP, true),
+        (node(6), FRAMED, true),
         (node(6), node(5), true),
         (node(6), node(0), true),
-        (Spot::View(1), node(2), true),
-        (node(0), Spot::View(0), true),
+        (FRAMED, node(2), true),
+        (node(0), TOP, true),
         (node(6), node(6), false),
         (node(5), node(6), false),
         (node(6), node(7), false),
         (node(7), node(2), false),
-        (node(7), Spot::View(1), false),
-        (Spot::View(0), Spot::View(0), false),
-        (node(9), Spot::View(0), false),
+        (node(7), FRAMED, false),
+        (TOP, TOP, false),
+        (node(9), TOP, false),
     ];
     for (target, root, want) in rows {
         assert_eq!(rt;
@@ -244,8 +244,8 @@ fn a_root_is_reached_from_below_alone(rt: HostRuntime) {
 #[test]
 fn a_root_rectangle_goes_by_the_kind_of_root(rt: HostRuntime) {
     let rows = [
-        (Spot::View(0), rect(0, 0, 800, 600)),
-        (Spot::View(1), rect(100, 200, 400, 500)),
+        (TOP, rect(0, 0, 800, 600)),
+        (FRAMED, rect(100, 200, 400, 500)),
         (node(1), rect(10, 20, 410, 320)),
         (node(5), rect(150, 300, 900, 310)),
         (node(9), rect(0, 0, 0, 0)),

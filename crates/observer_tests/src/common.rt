@@ -3,14 +3,14 @@
 ghost use Rattle.std.specs.Prelude.{◌≡◌, IfOk};
 ghost use Rattle.clip_chain.specs.Ranges.{IsClip, IsBounds};
 ghost use Rattle.clip_chain.specs.Worlds.{element_spot};
-ghost use Rattle.clip_chain.specs.declared.spot.Spot.TheVariants.{View};
+ghost use Rattle.clip_chain.specs.Worlds.{view_spot};
 ghost use Rattle.clip_chain.specs.Scenes.{Scene as SceneOf};
 ghost use Rattle.kept_clips.specs.Scenes.{DiffersOnlyAt};
 ghost use Rattle.observer_tests.specs.Sample.{rect_of, sample, sample_standing, AreExact};
 
 use candidate_index::{Scene, Standing};
 use clip_chain::{Geometry, Spot};
-use element_tree::NodeId;
+use element_tree::{DocumentId, NodeId};
 use intersection_observer::Root;
 use kept_clips::Clips;
 use px_units::Rect;
@@ -43,7 +43,7 @@ impl Geometry for Page {
     fn container(&self, of: Spot) -> Option<Spot> {
         match of {
             Spot::View(_) => None,
-            Spot::Node(NodeId(0)) => Some(Spot::View(0)),
+            Spot::Node(NodeId(0)) => Some(Spot::View(DocumentId(0))),
             Spot::Node(NodeId(number)) => Some(node(number / 2)),
         }
     }
@@ -51,7 +51,7 @@ impl Geometry for Page {
     fn clip(&self, of: Spot) -> Option<Rect> {
         self.asked.set(self.asked.get().saturating_add(1));
         match of {
-            Spot::View(0) => Some(rect(self.view)),
+            Spot::View(DocumentId(0)) => Some(rect(self.view)),
             Spot::View(_) => None,
             Spot::Node(NodeId(number)) => match self.clips.get(number as usize) {
                 Some(Some(sides)) => Some(rect(*sides)),
@@ -115,7 +115,7 @@ impl Page {
     }
 
     fn put_view(&mut self, sides: Sides)
-        ensures { DiffersOnlyAt (View 0) (sample self.old.clips self.old.boxes self.old.view) (sample self.new.clips self.new.boxes self.new.view) }
+        ensures { DiffersOnlyAt (view_spot 0) (sample self.old.clips self.old.boxes self.old.view) (sample self.new.clips self.new.boxes self.new.view) }
     {
         self.view = sides;
     }
@@ -189,15 +189,15 @@ pub(crate) fn change_view(rt: &impl Abort, page: &mut Page, clips: &mut Clips, s
     ensures { AreExact (sample page.new.clips page.new.boxes page.new.view) clips.new }
 {
     page.put_view(sides);
-    touch(rt, clips, Spot::View(0));
+    touch(rt, clips, Spot::View(DocumentId(0)));
 }
 
 fn make_three(observers: &mut Observers) -> Result<(), ObserveFault>
     ensures { observers.new.part.given ≡ observers.old.part.given }
 {
-    observers.make(0, None)?;
-    observers.make(1, Some(4))?;
-    observers.make(0, Some(0))?;
+    observers.make(DocumentId(0), None)?;
+    observers.make(DocumentId(1), Some(4))?;
+    observers.make(DocumentId(0), Some(0))?;
     Ok(())
 }
 

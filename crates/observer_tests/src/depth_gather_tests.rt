@@ -6,7 +6,7 @@ use depth_gather::{
     Delivery, ResizeEntry, ResizeList, Sizes, end_delivery, gather, has_skipped, least_depth,
     next_delivery,
 };
-use element_tree::NodeId;
+use element_tree::{DocumentId, NodeId};
 use px_units::{BoxKind, Point, Size};
 use resize_observer::Observers;
 use std::alloc::{AllocError, Global};
@@ -75,7 +75,7 @@ fn listed(alloc: Global, entries: &[ResizeEntry]) -> Result<String, Fail> {
 fn deliver(
     alloc: Global,
     observers: &mut Observers,
-    document: u32,
+    document: DocumentId,
     place: usize,
     width: u32,
 ) -> Result<String, Fail>
@@ -104,7 +104,7 @@ fn change(observers: &mut Observers, step: Step) -> &'static str
         | Step::Disconnect(document, place) => (document, place),
         Step::Gather(..) | Step::Deliver(..) => return "no change",
     };
-    let Some(observer) = observers.of_document(document, place) else {
+    let Some(observer) = observers.of_document(DocumentId(document), place) else {
         return "no observer";
     };
     match step {
@@ -131,12 +131,15 @@ fn apply(alloc: Global, observers: &mut Observers, step: Step) -> Result<String,
     ensures { observers.new.part.given ≤ observers.old.part.given + 1 }
 {
     match step {
-        Step::Gather(document, depth, width) => {
-            let number = gather(observers, &Wide { width }, document, depth);
+        Step::Gather(number, depth, width) => {
+            let document = DocumentId(number);
+            let active = gather(observers, &Wide { width }, document, depth);
             let skipped = has_skipped(observers, document);
-            Ok(format!(in alloc; "{number} {skipped}")?)
+            Ok(format!(in alloc; "{active} {skipped}")?)
         }
-        Step::Deliver(document, place, width) => deliver(alloc, observers, document, place, width),
+        Step::Deliver(document, place, width) => {
+            deliver(alloc, observers, DocumentId(document), place, width)
+        }
         _ => Ok(format!(in alloc; "{}", change(observers, step))?),
     }
 }
@@ -239,7 +242,9 @@ fn see_delivery(rt: &impl Abort, observers: &mut Observers, delivery: Delivery)
 #[test]
 fn the_least_depth_is_that_of_any_entry(rt: HostRuntime) -> Result<(), Fail> {
     let mut observers = three_observers(rt.alloc(), 9)?;
-    let observer = observers.of_document(1, 0).expect(&rt, "an observer");
+    let observer = observers
+        .of_document(DocumentId(1), 0)
+        .expect(&rt, "an observer");
     let entries = ResizeList::new(three_entries(rt.alloc())?);
     let delivery = Delivery {
         observer,

@@ -1,7 +1,7 @@
 //! The tables through calls, with answers from the rules.
 ghost use Rattle.std.specs.Prelude.{◌≡◌, ◌<◌, ◌≤◌, ◌+◌, ◌^◌};
 
-use element_tree::NodeId;
+use element_tree::{DocumentId, NodeId};
 use event_tables::{
     Batch, Dispatch, EventTarget, FrameCallbacks, HandlerId, Listeners, TableFault, Task, Tasks,
     Timers,
@@ -10,7 +10,7 @@ use std::process::Abort;
 use std::test::Fail;
 use text_io::{EventKind, Name};
 
-const WINDOW: EventTarget = EventTarget::Window(0);
+const WINDOW: EventTarget = EventTarget::Window(DocumentId(0));
 
 const ELEMENT: EventTarget = EventTarget::Node(NodeId(7));
 
@@ -137,9 +137,9 @@ fn request(callbacks: &mut FrameCallbacks, batch: &mut Batch, step: Step) -> Out
 {
     match step {
         Step::Add(document, key, handler) => {
-            answer(callbacks.request(document, key, HandlerId(handler)))
+            answer(callbacks.request(DocumentId(document), key, HandlerId(handler)))
         }
-        Step::Remove(document, key) => found(callbacks.cancel(document, key)),
+        Step::Remove(document, key) => found(callbacks.cancel(DocumentId(document), key)),
         Step::Next => match callbacks.next(batch) {
             Some((_, handler)) => Outcome::Called(handler.0),
             None => Outcome::Nothing,
@@ -151,9 +151,9 @@ fn request_three(callbacks: &mut FrameCallbacks, x: Name, y: Name) -> Result<(),
     requires { callbacks.old.part.given < 2 ^ 32 }
     ensures { callbacks.new.part.given ≤ callbacks.old.part.given + 3 }
 {
-    callbacks.request(0, x, HandlerId(4))?;
-    callbacks.request(1, x, HandlerId(5))?;
-    callbacks.request(0, y, HandlerId(6))?;
+    callbacks.request(DocumentId(0), x, HandlerId(4))?;
+    callbacks.request(DocumentId(1), x, HandlerId(5))?;
+    callbacks.request(DocumentId(0), y, HandlerId(6))?;
     Ok(())
 }
 
@@ -178,7 +178,7 @@ fn a_frame_callback_that_is_requested_anew_waits_for_the_next_update(
     let y = name(&rt, b"y");
     let mut callbacks = FrameCallbacks::new(rt.alloc(), 3);
     request_three(&mut callbacks, x, y)?;
-    let mut batch = callbacks.begin(0)?;
+    let mut batch = callbacks.begin(DocumentId(0))?;
     let steps = [
         (Step::Add(0, x, 5), Outcome::Refused(TableFault::Taken)),
         (Step::Add(1, y, 6), Outcome::Refused(TableFault::Limit)),
@@ -199,9 +199,9 @@ fn set(timers: &mut Timers, batch: &mut Batch, step: Step) -> Outcome
 {
     match step {
         Step::Add(document, key, handler) => {
-            answer(timers.add(document, key, 0, HandlerId(handler)))
+            answer(timers.add(DocumentId(document), key, 0, HandlerId(handler)))
         }
-        Step::Remove(document, key) => found(timers.clear(document, key)),
+        Step::Remove(document, key) => found(timers.clear(DocumentId(document), key)),
         Step::Next => match timers.next(batch) {
             Some((_, _, handler)) => Outcome::Called(handler.0),
             None => Outcome::Nothing,
@@ -213,10 +213,10 @@ fn add_four(timers: &mut Timers, x: Name, y: Name) -> Result<(), Fail>
     requires { timers.old.part.given < 2 ^ 32 }
     ensures { timers.new.part.given ≤ timers.old.part.given + 4 }
 {
-    timers.add(0, x, 5, HandlerId(0))?;
-    timers.add(1, x, 6, HandlerId(1))?;
-    timers.add(0, y, 3, HandlerId(2))?;
-    timers.add(1, y, 5, HandlerId(3))?;
+    timers.add(DocumentId(0), x, 5, HandlerId(0))?;
+    timers.add(DocumentId(1), x, 6, HandlerId(1))?;
+    timers.add(DocumentId(0), y, 3, HandlerId(2))?;
+    timers.add(DocumentId(1), y, 5, HandlerId(3))?;
     Ok(())
 }
 
@@ -254,7 +254,7 @@ fn add_many(timers: &mut Timers, x: Name) -> Result<(), Fail>
     requires { timers.old.part.given ≡ 0 }
 {
     for document in 0..300u32 {
-        timers.add(document, x, 7, HandlerId(document))?;
+        timers.add(DocumentId(document), x, 7, HandlerId(document))?;
     }
     Ok(())
 }
@@ -262,10 +262,13 @@ fn add_many(timers: &mut Timers, x: Name) -> Result<(), Fail>
 fn see_many(rt: &impl Abort, timers: &mut Timers, batch: &mut Batch, x: Name) {
     for document in 0..300u32 {
         let called = timers.next(batch);
-        assert_eq!(rt; called, Some((document, x, HandlerId(document))));
+        assert_eq!(rt;
+            called,
+            Some((DocumentId(document), x, HandlerId(document)))
+        );
     }
     assert_eq!(rt; timers.next(batch), None);
-    assert!(rt; !timers.is_there(0, x));
+    assert!(rt; !timers.is_there(DocumentId(0), x));
 }
 
 #[test]
@@ -279,13 +282,13 @@ fn timers_that_are_due_at_once_run_in_order_of_setting(rt: HostRuntime) -> Resul
 }
 
 fn see_tasks(rt: &impl Abort, tasks: &mut Tasks) -> Result<(), Fail> {
-    let posted = Task::Posted(0, HandlerId(3));
+    let posted = Task::Posted(DocumentId(0), HandlerId(3));
     tasks.push(posted)?;
     assert_eq!(rt; tasks.push(posted), Err(TableFault::Limit));
-    tasks.push(Task::Notify(2))?;
+    tasks.push(Task::Notify(DocumentId(2)))?;
     assert_eq!(rt; tasks.pop(), Some(posted));
     tasks.push(posted)?;
-    assert_eq!(rt; tasks.pop(), Some(Task::Notify(2)));
+    assert_eq!(rt; tasks.pop(), Some(Task::Notify(DocumentId(2))));
     assert_eq!(rt; tasks.pop(), Some(posted));
     assert_eq!(rt; tasks.pop(), None);
     Ok(())

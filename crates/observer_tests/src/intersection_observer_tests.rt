@@ -3,7 +3,7 @@ ghost use Rattle.std.specs.Prelude.{◌≡◌, ◌<◌, ◌≤◌, ◌+◌, ◌^
 ghost use Rattle.intersection_observer.specs.Places.{IsStanding};
 ghost use Rattle.thresholds.specs.Roots.{IsRootRect};
 
-use element_tree::NodeId;
+use element_tree::{DocumentId, NodeId};
 use intersection_observer::{
     Entry, Finding, RegistrationId, Root, Settled, WatchFault, WatcherId, Watchers,
 };
@@ -194,9 +194,15 @@ fn make_two(alloc: Global, watchers: &mut Watchers) -> Result<(), Fail>
 {
     let margins = Margins::parse(b"")?;
     let thresholds = Thresholds::new(alloc, &[])?;
-    watchers.make(0, None, Root::Implicit, margins, thresholds)?;
+    watchers.make(DocumentId(0), None, Root::Implicit, margins, thresholds)?;
     let thresholds = Thresholds::new(alloc, &[])?;
-    watchers.make(1, Some(3), Root::Document(1), margins, thresholds)?;
+    watchers.make(
+        DocumentId(1),
+        Some(3),
+        Root::Document(DocumentId(1)),
+        margins,
+        thresholds,
+    )?;
     Ok(())
 }
 
@@ -331,7 +337,7 @@ fn top_of(watchers: &Watchers, watcher: WatcherId, view: Rect) -> i64
 fn see_first(rt: &impl Abort, watchers: &Watchers, first: WatcherId)
     requires { first.0 < length watchers.now.part.made }
 {
-    assert_eq!(rt; watchers.document_of(first), 7);
+    assert_eq!(rt; watchers.document_of(first), DocumentId(7));
     assert_eq!(rt; watchers.handler_of(first), None);
     assert_eq!(rt; watchers.root_of(first), Root::Node(NodeId(3)));
     assert_eq!(rt; top_of(watchers, first, small_view()), -640);
@@ -343,9 +349,9 @@ fn see_first(rt: &impl Abort, watchers: &Watchers, first: WatcherId)
 fn see_second(rt: &impl Abort, watchers: &Watchers, second: WatcherId)
     requires { second.0 < length watchers.now.part.made }
 {
-    assert_eq!(rt; watchers.document_of(second), 8);
+    assert_eq!(rt; watchers.document_of(second), DocumentId(8));
     assert_eq!(rt; watchers.handler_of(second), Some(2));
-    assert_eq!(rt; watchers.root_of(second), Root::Document(8));
+    assert_eq!(rt; watchers.root_of(second), Root::Document(DocumentId(8)));
     assert_eq!(rt; top_of(watchers, second, small_view()), 0);
     let half = Ratio { part: 1, whole: 2 };
     assert_eq!(rt; watchers.thresholds_of(second).index_of(half), 1);
@@ -355,13 +361,25 @@ fn see_making(rt: &impl Abort, alloc: Global, watchers: &mut Watchers) -> Result
     assert!(rt; !watchers.is_full());
     let margins = Margins::parse(b"10px 0px")?;
     let thresholds = Thresholds::new(alloc, &[5000, 10000])?;
-    let first = watchers.make(7, None, Root::Node(NodeId(3)), margins, thresholds)?;
+    let first = watchers.make(
+        DocumentId(7),
+        None,
+        Root::Node(NodeId(3)),
+        margins,
+        thresholds,
+    )?;
     let margins = Margins::parse(b"")?;
     let thresholds = Thresholds::new(alloc, &[])?;
-    let second = watchers.make(8, Some(2), Root::Document(8), margins, thresholds)?;
+    let second = watchers.make(
+        DocumentId(8),
+        Some(2),
+        Root::Document(DocumentId(8)),
+        margins,
+        thresholds,
+    )?;
     assert!(rt; watchers.is_full());
     let thresholds = Thresholds::new(alloc, &[])?;
-    let refused = watchers.make(9, None, Root::Implicit, margins, thresholds);
+    let refused = watchers.make(DocumentId(9), None, Root::Implicit, margins, thresholds);
     assert_eq!(rt; refused, Err(WatchFault::Limit));
     assert_eq!(rt; watchers.count(), 2);
     see_first(rt, watchers, first);

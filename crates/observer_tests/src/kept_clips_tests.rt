@@ -6,7 +6,7 @@ ghost use Rattle.observer_tests.specs.Sample.{sample, AreExact};
 
 use crate::common::{Page, Sides, change_clip, node, rect};
 use clip_chain::{Spot, reaches};
-use element_tree::NodeId;
+use element_tree::{DocumentId, NodeId};
 use kept_clips::{Clip, Clips};
 use std::marker::Brand;
 use std::process::Abort;
@@ -30,8 +30,8 @@ enum Step {
 }
 
 const PAIRS: [(u64, Spot, Spot); 4] = [
-    (1, Spot::View(0), Spot::Node(NodeId(7))),
-    (2, Spot::View(0), Spot::Node(NodeId(4))),
+    (1, Spot::View(DocumentId(0)), Spot::Node(NodeId(7))),
+    (2, Spot::View(DocumentId(0)), Spot::Node(NodeId(4))),
     (3, Spot::Node(NodeId(1)), Spot::Node(NodeId(6))),
     (4, Spot::Node(NodeId(0)), Spot::Node(NodeId(1))),
 ];
@@ -145,17 +145,17 @@ fn clips_are_computed_again_where_their_chains_are_touched(rt: HostRuntime) -> R
 }
 
 fn see_adding(rt: &impl Abort, clips: &mut Clips) -> Result<(), Fail> {
-    assert!(rt; !clips.is_added(Spot::View(0)));
-    clips.add(Spot::View(1))?;
-    assert!(rt; clips.is_added(Spot::View(0)));
+    assert!(rt; !clips.is_added(Spot::View(DocumentId(0))));
+    clips.add(Spot::View(DocumentId(1)))?;
+    assert!(rt; clips.is_added(Spot::View(DocumentId(0))));
     assert!(rt; !clips.is_added(node(1)));
-    clips.touch(Spot::View(0));
+    clips.touch(Spot::View(DocumentId(0)));
     Ok(())
 }
 
 fn see_holding(rt: &impl Abort, clips: &mut Clips) -> Result<(), Fail> {
     assert_eq!(rt; clips.pair(3), None);
-    clips.hold(3, Spot::View(0), node(1))?;
+    clips.hold(3, Spot::View(DocumentId(0)), node(1))?;
     assert!(rt; clips.pair(3).is_some());
     clips.release(3);
     assert_eq!(rt; clips.pair(3), None);

@@ -3,7 +3,7 @@
 use crate::common::{Page, node, rect};
 use clip_chain::{Spot, reaches, root_rect, visible_rect};
 use depth_gather::{Sizes, end_delivery, gather, next_delivery};
-use element_tree::NodeId;
+use element_tree::{DocumentId, NodeId};
 use event_tables::{HandlerId, Timers};
 use intersection_observer::{Finding, Root, Settled, Watchers};
 use px_units::{BoxKind, Point, Rect, Size};
@@ -67,7 +67,7 @@ fn a_margin_moves_a_root_and_thresholds_are_counted(rt: HostRuntime) -> Result<(
 #[test]
 fn an_element_is_observed(rt: HostRuntime) -> Result<(), Fail> {
     let mut observers = Observers::new(rt.alloc(), 4096, 50_000);
-    let observer = observers.make(0, None)?; // of document 0, without a handler
+    let observer = observers.make(DocumentId(0), None)?; // of `top`, without a handler
     observers.observe(observer, NodeId(3), BoxKind::Content)?;
     assert_eq!(rt; observers.targets(observer).len(), 1); // the one observation
     Ok(())
@@ -78,7 +78,7 @@ fn a_finding_that_is_news_is_queued(rt: HostRuntime) -> Result<(), Fail> {
     let alloc = rt.alloc();
     let mut watchers = Watchers::new(alloc, 4096, 50_000);
     let (margins, thresholds) = (Margins::parse(b"")?, Thresholds::new(alloc, &[])?);
-    let watcher = watchers.make(0, None, Root::Implicit, margins, thresholds)?;
+    let watcher = watchers.make(DocumentId(0), None, Root::Implicit, margins, thresholds)?;
     watchers.observe(watcher, NodeId(3))?;
     let registrations = watchers.registrations(watcher);
     assert!(rt; registrations.len() == 1);
@@ -94,7 +94,7 @@ fn a_finding_that_is_news_is_queued(rt: HostRuntime) -> Result<(), Fail> {
 #[test]
 fn a_target_is_seen_in_the_viewport(rt: HostRuntime) -> Result<(), Fail> {
     let page = Page::new(); // elements with their boxes, a `Geometry`
-    let (target, root) = (node(6), Spot::View(0)); // the implicit root
+    let (target, root) = (node(6), Spot::View(DocumentId(0))); // the implicit root
     assert!(rt; reaches(&page, target, root));
     let limits = Margins::parse(b"1px")?.dilate(root_rect(&page, root));
     let seen = visible_rect(&page, target, root, limits); // None where nothing is seen
@@ -105,12 +105,13 @@ fn a_target_is_seen_in_the_viewport(rt: HostRuntime) -> Result<(), Fail> {
 #[test]
 fn a_viewport_is_scrolled(rt: HostRuntime) -> Result<(), Fail> {
     let mut scrolls = Scrolls::new(rt.alloc());
-    let view = ScrollTarget::Document(0);
+    let top = DocumentId(0);
+    let view = ScrollTarget::Document(top);
     let range = Size {
         width: 0,
         height: 6400,
     }; // 100 pixels downwards
-    let outcome = scrolls.scroll_to(0, view, Point { left: 0, top: 9600 }, range)?;
+    let outcome = scrolls.scroll_to(top, view, Point { left: 0, top: 9600 }, range)?;
     assert_eq!(rt; outcome, Outcome::Moved);
     assert_eq!(rt;
         scrolls.offset_in_force(view, range),
@@ -123,11 +124,12 @@ fn a_viewport_is_scrolled(rt: HostRuntime) -> Result<(), Fail> {
 fn what_was_gathered_is_delivered(rt: HostRuntime) -> Result<(), Fail> {
     let alloc = rt.alloc();
     let mut observers = Observers::new(alloc, 4096, 50_000);
-    let observer = observers.make(0, None)?;
+    let top = DocumentId(0);
+    let observer = observers.make(top, None)?;
     observers.observe(observer, NodeId(3), BoxKind::Content)?;
-    // of document 0, what is deeper than 0; `Squares` tells the sizes of now
-    assert_eq!(rt; gather(&mut observers, &Squares, 0, 0), 1);
-    if let Some(delivery) = next_delivery(alloc, &mut observers, &Squares, 0, 0)? {
+    // of this document, what is deeper than 0; `Squares` tells the sizes of now
+    assert_eq!(rt; gather(&mut observers, &Squares, top, 0), 1);
+    if let Some(delivery) = next_delivery(alloc, &mut observers, &Squares, top, 0)? {
         // the observer's callback is called with the entries here; the next delivery is looked for from delivery.place on
         assert_eq!(rt; delivery.entries.as_slice().len(), 1);
         end_delivery(&mut observers, delivery.observer);
@@ -139,9 +141,10 @@ fn what_was_gathered_is_delivered(rt: HostRuntime) -> Result<(), Fail> {
 fn a_timer_is_due(rt: HostRuntime) -> Result<(), Fail> {
     let key = Name::read(b"later").expect(&rt, "a name");
     let mut timers = Timers::new(rt.alloc(), 4096);
-    timers.add(0, key, 16, HandlerId(2))?; // of document 0, due at 16 ms
+    let top = DocumentId(0);
+    timers.add(top, key, 16, HandlerId(2))?; // due at 16 ms
     let mut batch = timers.take_due(20)?;
-    assert_eq!(rt; timers.next(&mut batch), Some((0, key, HandlerId(2)))); // its key is free again from here on
+    assert_eq!(rt; timers.next(&mut batch), Some((top, key, HandlerId(2)))); // its key is free again from here on
     assert_eq!(rt; timers.next(&mut batch), None);
     Ok(())
 }

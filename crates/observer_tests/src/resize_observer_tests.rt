@@ -2,7 +2,7 @@
 ghost use Rattle.std.specs.Prelude.{◌≡◌, ◌<◌, ◌≤◌, ◌+◌, ◌^◌};
 
 use crate::common::three_observers;
-use element_tree::NodeId;
+use element_tree::{DocumentId, NodeId};
 use px_units::{BoxKind, Size};
 use resize_observer::{Observation, ObserveFault, Observers};
 use std::alloc::Global;
@@ -32,7 +32,7 @@ fn answer(outcome: Result<(), ObserveFault>) -> &'static str {
 fn apply(
     rt: &impl Abort,
     observers: &mut Observers,
-    document: u32,
+    document: DocumentId,
     place: usize,
     step: Step,
 ) -> &'static str
@@ -89,7 +89,7 @@ fn listed(alloc: Global, observations: &[Observation]) -> Result<String, Fail> {
 fn lists(
     alloc: Global,
     observers: &Observers,
-    document: u32,
+    document: DocumentId,
     place: usize,
 ) -> Result<String, Fail> {
     let Some(observer) = observers.of_document(document, place) else {
@@ -210,7 +210,8 @@ fn see_step(rt: &impl Abort, alloc: Global, observers: &mut Observers, row: Row)
     requires { observers.old.part.given < 2 ^ 32 }
     ensures { observers.new.part.given ≤ observers.old.part.given + 1 }
 {
-    let (document, place, step, answered, want) = row;
+    let (number, place, step, answered, want) = row;
+    let document = DocumentId(number);
     let said = apply(rt, observers, document, place, step);
     assert_eq!(rt; said, answered, "before {want}");
     let now = lists(alloc, observers, document, place)?;
@@ -246,7 +247,7 @@ const PLACES: [(u32, usize, Option<(u32, Option<u32>)>); 6] = [
 fn see_place(
     rt: &impl Abort,
     observers: &Observers,
-    document: u32,
+    document: DocumentId,
     place: usize,
     want: Option<(u32, Option<u32>)>,
 ) {
@@ -261,9 +262,12 @@ fn see_place(
 #[test]
 fn observers_are_found_by_their_documents(rt: HostRuntime) -> Result<(), Fail> {
     let mut observers = three_observers(rt.alloc(), 3)?;
-    assert_eq!(&rt; observers.make(0, None), Err(ObserveFault::Limit));
+    assert_eq!(&rt;
+        observers.make(DocumentId(0), None),
+        Err(ObserveFault::Limit)
+    );
     for (document, place, want) in PLACES {
-        see_place(&rt, &observers, document, place, want);
+        see_place(&rt, &observers, DocumentId(document), place, want);
     }
     Ok(())
 }

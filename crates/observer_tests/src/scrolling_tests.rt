@@ -2,7 +2,7 @@
 
 ghost use Rattle.scrolling.specs.Ranges.{IsRange};
 
-use element_tree::NodeId;
+use element_tree::{DocumentId, NodeId};
 use px_units::{Point, Size};
 use scrolling::{Outcome, ScrollTarget, Scrolls};
 use std::process::Abort;
@@ -12,9 +12,9 @@ const BOX: ScrollTarget = ScrollTarget::Node(NodeId(3));
 
 const OTHER: ScrollTarget = ScrollTarget::Node(NodeId(1));
 
-const VIEW: ScrollTarget = ScrollTarget::Document(1);
+const VIEW: ScrollTarget = ScrollTarget::Document(DocumentId(1));
 
-const TOP: ScrollTarget = ScrollTarget::Document(0);
+const TOP: ScrollTarget = ScrollTarget::Document(DocumentId(0));
 
 // A range in whole pixels.
 fn range(width: u16, height: u16) -> Size
@@ -51,7 +51,7 @@ fn scrolls_keep_to_their_ranges(rt: HostRuntime) -> Result<(), Fail> {
     ];
     for (target, wanted, most, want, offset) in steps {
         let within = range(most.0, most.1);
-        let outcome = scrolls.scroll_to(0, target, pixels(wanted.0, wanted.1), within)?;
+        let outcome = scrolls.scroll_to(DocumentId(0), target, pixels(wanted.0, wanted.1), within)?;
         assert_eq!(rt; outcome, want, "at {offset:?}");
         assert_eq!(rt;
             scrolls.offset_in_force(target, within),
@@ -64,7 +64,7 @@ fn scrolls_keep_to_their_ranges(rt: HostRuntime) -> Result<(), Fail> {
     Ok(())
 }
 
-fn take(rt: &impl Abort, scrolls: &mut Scrolls, document: u32, want: &[ScrollTarget]) {
+fn take(rt: &impl Abort, scrolls: &mut Scrolls, document: DocumentId, want: &[ScrollTarget]) {
     let taken = scrolls.take_pending(document);
     assert_eq!(rt; taken.as_slice(), want);
 }
@@ -83,14 +83,19 @@ fn pending_lists_have_an_order_and_no_doubles(rt: HostRuntime) -> Result<(), Fai
         (2, TOP, 9),
     ];
     for (document, target, top) in steps {
-        let _outcome = scrolls.scroll_to(document, target, pixels(0, top), range(9, 9))?;
+        let _outcome = scrolls.scroll_to(
+            DocumentId(document),
+            target,
+            pixels(0, top),
+            range(9, 9),
+        )?;
     }
-    take(&rt, &mut scrolls, 0, &[BOX, VIEW, OTHER]);
-    take(&rt, &mut scrolls, 0, &[]);
-    take(&rt, &mut scrolls, 1, &[]);
-    let _outcome = scrolls.scroll_to(0, OTHER, pixels(0, 2), range(9, 9))?;
-    take(&rt, &mut scrolls, 0, &[OTHER]);
-    take(&rt, &mut scrolls, 2, &[BOX, TOP]);
-    take(&rt, &mut scrolls, 7, &[]);
+    take(&rt, &mut scrolls, DocumentId(0), &[BOX, VIEW, OTHER]);
+    take(&rt, &mut scrolls, DocumentId(0), &[]);
+    take(&rt, &mut scrolls, DocumentId(1), &[]);
+    let _outcome = scrolls.scroll_to(DocumentId(0), OTHER, pixels(0, 2), range(9, 9))?;
+    take(&rt, &mut scrolls, DocumentId(0), &[OTHER]);
+    take(&rt, &mut scrolls, DocumentId(2), &[BOX, TOP]);
+    take(&rt, &mut scrolls, DocumentId(7), &[]);
     Ok(())
 }

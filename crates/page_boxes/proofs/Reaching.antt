@@ -1,26 +1,19 @@
 -- How far scroll containers and viewports can be scrolled.
-use Rattle.std.proofs.Common.{◌≡◌, ◌≤◌, ℕ, Bool, true, false, cond, List, Option, Some, None, option_map, refl, ap, sym, ◌∙◌, arith}
-use Rattle.std.specs.Prelude.{◌&&◌, not, is_some, slice_get}
+use Rattle.std.proofs.Common.{◌≡◌, ◌≤◌, ℕ, Bool, true, false, cond, List, Option, Some, None, refl, ap, sym, ◌∙◌, arith}
+use Rattle.std.specs.Prelude.{◌&&◌, is_some}
 use Rattle.px_units.specs.declared.Size.{Size}
 use Rattle.px_units.specs.Lengths.{cap}
-use Rattle.layout_model.specs.Styles.{Style}
-use Rattle.layout_model.specs.Items.{Kind}
 use Rattle.layout_model.specs.Nodes.{Node}
 use Rattle.layout_model.specs.Boxes.{Inputs, Box, box_in, padding_size}
-use Rattle.layout_model.specs.Clips.{is_block, is_visible, is_clip, is_scroll_container}
+use Rattle.layout_model.specs.Clips.{is_scroll_container}
 use Rattle.layout_model.specs.Points.{minus, capped, IsWithin}
 use Rattle.layout_model.specs.Views.{View, view_size, inputs_in_view}
 use Rattle.layout_model.specs.Reach.{reach_at, reach_of, reach_of_view, range_at, range_of, range_of_view}
 use Rattle.layout_model.proofs.Attained.{view_alone}
-use Rattle.element_tree.specs.declared.node.NodeId.{NodeId}
-use Rattle.element_tree.specs.Links.{node_ids}
-use Rattle.element_tree.specs.Forest.{Knot, parent_of}
 use Rattle.page_model.specs.World.{Screen, ScrolledElement, ScrolledDocument, Tree}
 use Rattle.page_model.specs.Documents.{nodes_of}
 use Rattle.page_model.specs.PageBoxes.{pair_of, view_of, view_at, has_box, is_scroller, range_if, scroll_range}
 use Rattle.block_layout.specs.Seen.{as_size}
-use Rattle.block_layout.specs.Trees.{layout_tree}
-use Rattle.block_layout.proofs.Nodes.{item_is, parent_is, some_ids}
 use Rattle.kept_layout.specs.declared.slots.Slot.{Slot}
 use Rattle.kept_layout.specs.Slots.{held_in}
 use Rattle.kept_layout.proofs.Climbed.{pair_is}
@@ -28,45 +21,6 @@ use Rattle.kept_layout.proofs.Exact.{held_fresh}
 use Rattle.page_boxes.specs.Fresh.{HoldsAll}
 use Rattle.page_boxes.specs.Pages.{seen_pair}
 use Rattle.page_boxes.proofs.Parents.{some_found, same_box, none_held}
-
--- a scroll container, by what is asked of its node
-regroup : (block visible clip inner : Bool) → ((block && not visible && inner) && not clip) ≡ (block && (not visible && not clip) && inner)
-regroup false visible clip inner = refl
-regroup true true clip inner = refl
-regroup true false true true = refl
-regroup true false true false = refl
-regroup true false false true = refl
-regroup true false false false = refl
-
-no_part : (block inner : Bool) → false ≡ (block && false && inner)
-no_part true inner = refl
-no_part false inner = refl
-
-pub kidless : (at : ℕ → Node) (n : ℕ) → is_block (at n).item.kind ≡ false → false ≡ is_scroll_container (at n)
-kidless at n none = sym (ap (λ b. (b && not (is_visible (at n).item.style.overflow) && is_some (at n).parent) && not (is_clip (at n).item.style.overflow)) none)
-
-module _ {P : Type 0} (style : P → Style) (kind : P → Kind) (nodes : List (Knot P)) (n : ℕ) (carried : P)
-    (is : option_map (λ k. k.payload) (slice_get nodes n) ≡ Some carried) where
-  pub container_is : (block scrolls inner : Bool) → block ≡ is_block (layout_tree style kind nodes n).item.kind
-      → scrolls ≡ (not (is_visible (style carried).overflow) && not (is_clip (style carried).overflow))
-      → (parent : Option NodeId) → parent ≡ node_ids (parent_of nodes n) → inner ≡ is_some parent
-      → (block && scrolls && inner) ≡ is_scroll_container (layout_tree style kind nodes n)
-  container_is block scrolls inner blocks can parent up has =
-      let node = layout_tree style kind nodes n in
-      ap (λ b. b && scrolls && inner) blocks
-      ∙ ap (λ b. is_block node.item.kind && b && inner) (can ∙ sym (ap (λ item. not (is_visible item.style.overflow) && not (is_clip item.style.overflow)) (item_is style kind nodes n carried is)))
-      ∙ ap (λ b. is_block node.item.kind && (not (is_visible node.item.style.overflow) && not (is_clip node.item.style.overflow)) && b)
-      (has ∙ ap is_some up ∙ some_ids (parent_of nodes n) ∙ sym (ap is_some (parent_is style kind nodes n)))
-      ∙ sym (regroup (is_block node.item.kind) (is_visible node.item.style.overflow) (is_clip node.item.style.overflow) (is_some node.parent))
-
-  pub unscrollable : (scrolls : Bool) → scrolls ≡ (not (is_visible (style carried).overflow) && not (is_clip (style carried).overflow)) → scrolls ≡ false
-      → false ≡ is_scroll_container (layout_tree style kind nodes n)
-  unscrollable scrolls can none =
-      let block = is_block (layout_tree style kind nodes n).item.kind in
-      let inner = is_some (node_ids (parent_of nodes n)) in
-      no_part block inner
-      ∙ sym (ap (λ b. block && b && inner) none)
-      ∙ container_is block scrolls inner refl can (node_ids (parent_of nodes n)) refl refl
 
 -- what something reaches is capped, so that what is left of it is too
 low : (x : ℕ) → cap x ≤ 2147483647

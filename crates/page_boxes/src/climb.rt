@@ -7,31 +7,8 @@ ghost use Rattle.element_tree.specs.Links.{number};
 ghost use Rattle.page_model.specs.Documents.{is_number};
 ghost use Rattle.block_layout.specs.Trees.{layout_tree};
 
-use block_layout::{ItemKind, Styled};
+use block_layout::{Styled, is_block, is_hidden};
 use element_tree::{NodeId, Tree};
-use style_values::Display;
-
-// Whether the node itself has `display: none`.
-pub(crate) fn is_hidden<P: Styled>(tree: &Tree<P>, node: NodeId) -> bool
-    requires { node.0 < length tree.now.nodes }
-    ensures { result ≡ (layout_tree P.style P.kind tree.now.nodes node.0).item.style.hidden }
-{
-    match tree.payload(node).style().display {
-        Display::Hidden => true,
-        Display::Block => false,
-    }
-}
-
-// Whether the children of the node may have boxes.
-pub(crate) fn has_kids<P: Styled>(tree: &Tree<P>, node: NodeId) -> bool
-    requires { node.0 < length tree.now.nodes }
-    ensures { result ≡ is_block (layout_tree P.style P.kind tree.now.nodes node.0).item.kind }
-{
-    match tree.payload(node).kind() {
-        ItemKind::Block => true,
-        ItemKind::Image(_) | ItemKind::Frame => false,
-    }
-}
 
 // Whether a node has a box where its parent has one.
 fn takes_part<P: Styled>(tree: &Tree<P>, parent: NodeId, node: NodeId) -> bool
@@ -40,7 +17,7 @@ fn takes_part<P: Styled>(tree: &Tree<P>, parent: NodeId, node: NodeId) -> bool
     ensures { let at = layout_tree P.style P.kind tree.now.nodes in
         result ≡ (not (at node.0).item.style.hidden && is_block (at parent.0).item.kind) }
 {
-    !is_hidden(tree, node) && has_kids(tree, parent)
+    !is_hidden(tree, node) && is_block(tree, parent)
 }
 
 // Whether a node without a parent has a box.

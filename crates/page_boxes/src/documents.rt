@@ -13,12 +13,12 @@ ghost use Rattle.page_boxes.specs.Pages.{seen_screen, seen_pair, IsScreen};
 use crate::climb::is_boxed;
 use crate::screens::Screen;
 use block_layout::{BoxOf, Boxes};
-use element_tree::NodeId;
+use element_tree::{DocumentId, NodeId};
 use kept_layout::Kept;
 use page_tree::PageTree;
 use px_units::{BoxKind, Size};
 
-/// As many frames in frames are looked at: more than there can be.
+/// How many nested frames are followed: more than there can be.
 const LEVELS: u32 = 65536;
 
 const NO_SIZE: Size = Size {
@@ -26,9 +26,9 @@ const NO_SIZE: Size = Size {
     height: 0,
 };
 
-// The root element that a document shows, where so many frames are looked at.
-fn root_up(page: &PageTree, document: u32, high: u32) -> Option<NodeId>
-    ensures { (screen : WorldScreen) → option_map number result ≡ (view_up high page.now.tree screen document).root }
+// The root element that a document shows, following `high` frames at most.
+fn root_up(page: &PageTree, document: DocumentId, high: u32) -> Option<NodeId>
+    ensures { (screen : WorldScreen) → option_map number result ≡ (view_up high page.now.tree screen document.0).root }
 {
     if high == 0 {
         return None;
@@ -51,8 +51,8 @@ fn root_up(page: &PageTree, document: u32, high: u32) -> Option<NodeId>
 /// The root element that a document shows: none where it isn't Active or its frame has no box. No memory.
 ///
 /// It calls itself once for each frame around the document.
-pub fn shown_root(page: &PageTree, document: u32) -> Option<NodeId>
-    ensures { (screen : WorldScreen) → option_map number result ≡ (view_of page.now.tree screen document).root }
+pub fn shown_root(page: &PageTree, document: DocumentId) -> Option<NodeId>
+    ensures { (screen : WorldScreen) → option_map number result ≡ (view_of page.now.tree screen document.0).root }
 {
     root_up(page, document, LEVELS)
 }
@@ -76,8 +76,8 @@ pub fn has_box(page: &PageTree, node: NodeId) -> bool
     has_box_below(page, root, node)
 }
 
-/// The box of an element where its document shows this root element, none where it has none. It is so where the boxes of its
-/// document are held as they are now. No memory.
+/// The box of an element where its document shows this root element, none where it has none. Exact as long as the boxes of its document are
+/// up to date (`refresh_in`). No memory.
 pub fn box_below(page: &PageTree, boxes: &Kept, root: Option<NodeId>, node: NodeId) -> Option<BoxOf>
     ensures { (screen : WorldScreen) → option_map number root ≡ (view_at page.now.tree screen node.0).root →
         IsFreshIn page.now.tree screen boxes.now (element_at page.now.tree node.0).document → result ≡ box_of page.now.tree screen node.0 }
@@ -103,10 +103,10 @@ pub(crate) fn framed_size(
     page: &PageTree,
     boxes: &Kept,
     screen: Screen,
-    document: u32,
+    document: DocumentId,
 ) -> Option<Size>
-    ensures value { IsFreshAbove page.now.tree (seen_screen screen) boxes.now document → option_map seen_pair result
-        ≡ framed_size page.now.tree (seen_screen screen) (view_of page.now.tree (seen_screen screen)) (document_at page.now.tree document).frame }
+    ensures value { IsFreshAbove page.now.tree (seen_screen screen) boxes.now document.0 → option_map seen_pair result
+        ≡ framed_size page.now.tree (seen_screen screen) (view_of page.now.tree (seen_screen screen)) (document_at page.now.tree document.0).frame }
     ensures range { IsNatural screen.size → IfSome result IsNatural }
 {
     let Some(frame) = page.frame_of(document) else {
@@ -127,13 +127,13 @@ pub struct ShownRoot {
     pub size: Size,
 }
 
-/// The size of a document's viewport (CSSOM View, 4: `innerWidth`, `innerHeight`): for `top` that of its screen, and for
-/// another document the content box of its frame, 0 by 0 where that has no box. It is so where the boxes of the document around it
-/// are held as they are now with this screen. No memory.
-pub fn viewport_of(page: &PageTree, boxes: &Kept, screen: Screen, document: u32) -> Size
+/// The size of a document's viewport (CSSOM View, 4: `innerWidth`, `innerHeight`): for `top` that of its screen, and for another document
+/// the content box of its frame, 0 by 0 where that has no box. Exact as long as the boxes of the document around it are up to date with
+/// this screen (`refresh_in`). No memory.
+pub fn viewport_of(page: &PageTree, boxes: &Kept, screen: Screen, document: DocumentId) -> Size
     requires { IsScreen screen }
-    ensures value { IsFreshAbove page.now.tree (seen_screen screen) boxes.now document →
-        result ≡ as_size (pair_of (viewport_of page.now.tree (seen_screen screen) document)) }
+    ensures value { IsFreshAbove page.now.tree (seen_screen screen) boxes.now document.0 →
+        result ≡ as_size (pair_of (viewport_of page.now.tree (seen_screen screen) document.0)) }
     ensures range { IsNatural result }
 {
     match framed_size(page, boxes, screen, document) {

@@ -20,8 +20,8 @@ use px_units::Point;
 use scrolling::{ScrollTarget, Scrolls};
 use std::alloc::{AllocError, Global};
 
-/// The scroll offset in force of each node whose stored position isn't the start, by its number. They are so where the boxes in its view
-/// are held as they are now, and no length of that is above the largest one.
+/// The scroll offset in force of each node whose stored position isn't the start, by its number. Exact as long as the boxes in its view are
+/// up to date (`refresh_in`) and no length of the view is above the largest one.
 ///
 /// # Errors
 ///
@@ -49,7 +49,7 @@ pub fn boxed_offsets<P: Styled>(
     Ok(found)
 }
 
-// The scroll offset in force of a node that has a box, which is measured only where it wasn't found before.
+// The scroll offset in force of a node that has a box: the one in `found`, else measured.
 pub(crate) fn offset_of<P: Styled>(
     tree: &Tree<P>,
     boxes: &Kept,

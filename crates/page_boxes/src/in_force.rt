@@ -43,7 +43,7 @@ pub fn is_at_start(scrolls: &Scrolls, target: ScrollTarget) -> bool
     stored.left == 0 && stored.top == 0
 }
 
-// The stored position of a target, where it lies within what the target can be scrolled by at the least.
+// The stored position of a target, where it lies within a lower bound of the target's range.
 fn stored_within(scrolls: &Scrolls, target: ScrollTarget, least: Size) -> Option<Point>
     ensures value { IfSome result (λ offset. (range : ℕ × ℕ) → IsWithin (seen_pair least) range → IsWithin range (2147483647, 2147483647) →
         offset ≡ point_of (lesser_extent (position_of (seen_target target) scrolls.now) (extent_of range))) }
@@ -57,8 +57,8 @@ fn stored_within(scrolls: &Scrolls, target: ScrollTarget, least: Size) -> Option
     }
 }
 
-/// The scroll offset in force of a node that has a box (CSSOM View, 6: `scrollTop`): on each axis the lesser of the stored position
-/// and of how far it can be scrolled. It is so where the boxes in its view are held as they are now, and no length of that is above the
+/// The scroll offset in force of a node that has a box (CSSOM View, 6: `scrollTop`): on each axis the lesser of the stored position and of
+/// how far it can be scrolled. Exact as long as the boxes in its view are up to date (`refresh_in`) and no length of the view is above the
 /// largest one. No memory.
 pub fn boxed_offset<P: Styled>(
     tree: &Tree<P>,
@@ -85,8 +85,8 @@ pub fn boxed_offset<P: Styled>(
     }
 }
 
-/// The scroll offset in force of the viewport in which a root element is shown (CSSOM View, 4: `scrollY`). It is so where the boxes
-/// in its view are held as they are now. No memory.
+/// The scroll offset in force of the viewport in which a root element is shown (CSSOM View, 4: `scrollY`). Exact as long as the boxes in
+/// its view are up to date (`refresh_in`). No memory.
 pub fn shown_offset<P: Styled>(
     tree: &Tree<P>,
     boxes: &Kept,

@@ -1,8 +1,9 @@
-//! Which documents are laid out so far.
+//! Which documents have been laid out.
 
 ghost use Rattle.std.specs.Prelude.{◌≡◌, ◌<◌, false, true, replicate, slice_set};
 ghost use Rattle.page_boxes.specs.LaidOut.{is_marked};
 
+use element_tree::DocumentId;
 use page_documents::MOST_DOCUMENTS;
 use std::marker::Model;
 
@@ -29,17 +30,17 @@ impl LaidOut {
         }
     }
 
-    pub(crate) fn has(&self, document: u32) -> bool
-        requires { document < 64 }
-        ensures { result ≡ is_marked self.now document }
+    pub(crate) fn has(&self, document: DocumentId) -> bool
+        requires { document.0 < 64 }
+        ensures { result ≡ is_marked self.now document.0 }
     {
-        self.marks[document as usize]
+        self.marks[document.0 as usize]
     }
 
-    pub(crate) fn mark(&mut self, document: u32)
-        requires { document < 64 }
-        ensures { self.new ≡ slice_set self.old document true }
+    pub(crate) fn mark(&mut self, document: DocumentId)
+        requires { document.0 < 64 }
+        ensures { self.new ≡ slice_set self.old document.0 true }
     {
-        self.marks[document as usize] = true;
+        self.marks[document.0 as usize] = true;
     }
 }

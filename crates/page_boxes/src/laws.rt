@@ -1,4 +1,4 @@
-//! That what is kept of nothing fits every page.
+//! That a `Kept` that holds nothing fits every page.
 
 ghost use Rattle.std.specs.Prelude.{◌≡◌, ◌≤◌, ℕ, List, length};
 ghost use Rattle.page_model.specs.World.{Tree};

@@ -16,6 +16,7 @@ use crate::documents::framed_size;
 use crate::laid_out::LaidOut;
 use crate::screens::Screen;
 use block_layout::Inputs;
+use element_tree::DocumentId;
 use kept_layout::Kept;
 use page_tree::{Container, PageTree};
 use px_units::Size;
@@ -34,21 +35,21 @@ fn root_inputs(viewport: Size) -> Inputs
     }
 }
 
-// Computes what is due of the boxes of an Active document, where those of the document around it are held as they are now.
+// Computes what is due of the boxes of an Active document, once those of the document around it are up to date.
 fn lay_out<L: Ledger>(
     boxes: &mut Kept,
     page: &PageTree,
     screen: Screen,
-    document: u32,
+    document: DocumentId,
     steps: &mut Steps<L>,
 )
     requires kept { AreKept page.now.tree boxes.old }
-    requires active { is_active page.now.tree document ≡ true }
-    requires around { IsFreshAbove page.now.tree (seen_screen screen) boxes.old document }
-    ensures laid_out { IsLaidOut page.now.tree (seen_screen screen) boxes.new document }
-    ensures others { (other : ℕ) → other ≢ document → IsLaidOut page.now.tree (seen_screen screen) boxes.old other →
+    requires active { is_active page.now.tree document.0 ≡ true }
+    requires around { IsFreshAbove page.now.tree (seen_screen screen) boxes.old document.0 }
+    ensures laid_out { IsLaidOut page.now.tree (seen_screen screen) boxes.new document.0 }
+    ensures others { (other : ℕ) → other ≢ document.0 → IsLaidOut page.now.tree (seen_screen screen) boxes.old other →
         IsLaidOut page.now.tree (seen_screen screen) boxes.new other }
-    ensures left { ChangesOnlyIn page.now.tree (document ∷ []) boxes.old boxes.new }
+    ensures left { ChangesOnlyIn page.now.tree (document.0 ∷ []) boxes.old boxes.new }
     ensures kept { AreKept page.now.tree boxes.new }
     ensures slots { length boxes.new ≡ length boxes.old }
     ensures fills { FillsOnly boxes.old boxes.new }
@@ -69,19 +70,19 @@ fn lay_out_once<L: Ledger>(
     boxes: &mut Kept,
     page: &PageTree,
     screen: Screen,
-    document: u32,
+    document: DocumentId,
     laid_out: &mut LaidOut,
     steps: &mut Steps<L>,
 )
     requires kept { AreKept page.now.tree boxes.old }
-    requires known { document < 64 }
-    requires active { is_active page.now.tree document ≡ true }
+    requires known { document.0 < 64 }
+    requires active { is_active page.now.tree document.0 ≡ true }
     requires marks { length laid_out.old ≡ 64 }
-    requires around { IsFreshAbove page.now.tree (seen_screen screen) boxes.old document }
+    requires around { IsFreshAbove page.now.tree (seen_screen screen) boxes.old document.0 }
     requires laid_out { AreLaidOut page.now.tree (seen_screen screen) laid_out.old boxes.old }
     ensures goes { GoesOn page.now.tree (seen_screen screen) laid_out.old laid_out.new boxes.new }
-    ensures marked { is_marked laid_out.new document ≡ true }
-    ensures left { ChangesOnlyIn page.now.tree (document ∷ []) boxes.old boxes.new }
+    ensures marked { is_marked laid_out.new document.0 ≡ true }
+    ensures left { ChangesOnlyIn page.now.tree (document.0 ∷ []) boxes.old boxes.new }
     ensures kept { AreKept page.now.tree boxes.new }
     ensures slots { length boxes.new ≡ length boxes.old }
     ensures fills { FillsOnly boxes.old boxes.new }
@@ -95,26 +96,25 @@ fn lay_out_once<L: Ledger>(
     laid_out.mark(document);
 }
 
-// Lays out a document after the documents around it, each that isn't marked yet. So many frames are looked at, which lead up to
-// `top`.
+// Lays out a document after the documents around it, each that isn't marked yet, following `high` frames at most, which lead up to `top`.
 fn lay_out_up<L: Ledger>(
     boxes: &mut Kept,
     page: &PageTree,
     screen: Screen,
-    document: u32,
+    document: DocumentId,
     high: u32,
     laid_out: &mut LaidOut,
     steps: &mut Steps<L>,
 )
     requires kept { AreKept page.now.tree boxes.old }
     requires framed { AreFramed page.now.tree }
-    requires leads { is_active page.now.tree document ≡ true → first_of_list (way_down high page.now.tree document) ≡ Some 0 }
+    requires leads { is_active page.now.tree document.0 ≡ true → first_of_list (way_down high page.now.tree document.0) ≡ Some 0 }
     requires marks { length laid_out.old ≡ 64 }
     requires laid_out { AreLaidOut page.now.tree (seen_screen screen) laid_out.old boxes.old }
     ensures goes { GoesOn page.now.tree (seen_screen screen) laid_out.old laid_out.new boxes.new }
-    ensures marked { is_active page.now.tree document ≡ true → is_marked laid_out.new document ≡ true }
-    ensures above { is_active page.now.tree document ≡ true → IsFreshAbove page.now.tree (seen_screen screen) boxes.new document }
-    ensures left { ChangesOnlyIn page.now.tree (way_down high page.now.tree document) boxes.old boxes.new }
+    ensures marked { is_active page.now.tree document.0 ≡ true → is_marked laid_out.new document.0 ≡ true }
+    ensures above { is_active page.now.tree document.0 ≡ true → IsFreshAbove page.now.tree (seen_screen screen) boxes.new document.0 }
+    ensures left { ChangesOnlyIn page.now.tree (way_down high page.now.tree document.0) boxes.old boxes.new }
     ensures kept { AreKept page.now.tree boxes.new }
     ensures slots { length boxes.new ≡ length boxes.old }
     ensures fills { FillsOnly boxes.old boxes.new }
@@ -152,7 +152,15 @@ pub fn refresh<L: Ledger>(boxes: &mut Kept, page: &PageTree, screen: Screen, ste
     let mut laid_out = LaidOut::new();
     let count = page.document_count();
     for document in 0..count {
-        lay_out_up(boxes, page, screen, document, count, &mut laid_out, steps);
+        lay_out_up(
+            boxes,
+            page,
+            screen,
+            DocumentId(document),
+            count,
+            &mut laid_out,
+            steps,
+        );
     }
 }
 
@@ -162,14 +170,14 @@ fn refresh_document<L: Ledger>(
     boxes: &mut Kept,
     page: &PageTree,
     screen: Screen,
-    document: u32,
+    document: DocumentId,
     steps: &mut Steps<L>,
 )
     requires { AreKept page.now.tree boxes.old }
     ensures framed { AreFramed page.now.tree }
-    ensures fresh { IsFreshIn page.now.tree (seen_screen screen) boxes.new document }
-    ensures above { is_active page.now.tree document ≡ true → IsFreshAbove page.now.tree (seen_screen screen) boxes.new document }
-    ensures left { (high : ℕ) → 64 ≤ high → ChangesOnlyIn page.now.tree (way_down high page.now.tree document) boxes.old boxes.new }
+    ensures fresh { IsFreshIn page.now.tree (seen_screen screen) boxes.new document.0 }
+    ensures above { is_active page.now.tree document.0 ≡ true → IsFreshAbove page.now.tree (seen_screen screen) boxes.new document.0 }
+    ensures left { (high : ℕ) → 64 ≤ high → ChangesOnlyIn page.now.tree (way_down high page.now.tree document.0) boxes.old boxes.new }
     ensures kept { AreKept page.now.tree boxes.new }
     ensures slots { length boxes.new ≡ length boxes.old }
     ensures fills { FillsOnly boxes.old boxes.new }
@@ -188,13 +196,13 @@ pub fn refresh_in<L: Ledger>(
     boxes: &mut Kept,
     page: &PageTree,
     screen: Screen,
-    document: u32,
+    document: DocumentId,
     steps: &mut Steps<L>,
 )
     requires { AreKept page.now.tree boxes.old }
-    ensures fresh { IsFreshIn page.now.tree (seen_screen screen) boxes.new document }
-    ensures above { IsFreshAbove page.now.tree (seen_screen screen) boxes.new document }
-    ensures left { LeavesOthers page.now.tree (Some document) boxes.old boxes.new }
+    ensures fresh { IsFreshIn page.now.tree (seen_screen screen) boxes.new document.0 }
+    ensures above { IsFreshAbove page.now.tree (seen_screen screen) boxes.new document.0 }
+    ensures left { LeavesOthers page.now.tree (Some document.0) boxes.old boxes.new }
     ensures kept { AreKept page.now.tree boxes.new }
     ensures slots { length boxes.new ≡ length boxes.old }
     ensures fills { FillsOnly boxes.old boxes.new }

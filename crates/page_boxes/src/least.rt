@@ -1,5 +1,5 @@
-//! How far elements and viewports can be scrolled at the least: as far as one box reaches by itself. Where a stored position lies
-//! within that it is in force, and nothing else has to be measured.
+//! A lower bound of how far elements and viewports can be scrolled: as far as one box reaches by itself. A stored position within it is in
+//! force, and nothing else has to be measured.
 
 ghost use Rattle.std.specs.Prelude.{◌≡◌, ◌+◌, ◌-◌, ◌<◌, ◌≤◌, pos, cond, true, Some, None, length, is_some, unsigned_abs};
 ghost use Rattle.px_units.specs.Lengths.{cap};
@@ -17,10 +17,9 @@ ghost use Rattle.block_layout.specs.Trees.{layout_tree};
 ghost use Rattle.page_boxes.specs.Fresh.{HoldsAll};
 ghost use Rattle.page_boxes.specs.Pages.{seen_pair};
 
-use crate::climb::is_hidden;
 use crate::documents::ShownRoot;
-use crate::ranges::{is_scroll_container, range_between};
-use block_layout::{BoxOf, Boxes, Styled};
+use crate::ranges::range_between;
+use block_layout::{BoxOf, Boxes, Styled, is_hidden, is_scroll_container};
 use element_tree::{NodeId, Tree};
 use kept_layout::{Kept, Shift};
 use layout_model::capped;
@@ -34,7 +33,7 @@ const NO_SIZE: Size = Size {
     height: 0,
 };
 
-// The end of a length that begins so far on, less so much.
+// The end of a length that begins at `corner`, counted from `less`.
 fn end(corner: u64, length: i64, less: i64) -> i64
     requires { corner ≤ 2147483647 }
     ensures { result ≡ pos (cap (corner + unsigned_abs length - unsigned_abs less)) }
@@ -42,7 +41,7 @@ fn end(corner: u64, length: i64, less: i64) -> i64
     capped((corner + length.unsigned_abs()).saturating_sub(less.unsigned_abs())) as i64
 }
 
-// The right and bottom edges of a border box whose corner is so far on, from a point.
+// The right and bottom edges of a border box at a corner, counted from a point.
 fn edges(corner: Shift, own: &BoxOf, from: Point) -> Size
     requires across { corner.across ≤ 2147483647 }
     requires down { corner.down ≤ 2147483647 }

@@ -28,6 +28,6 @@ pub use in_force::{boxed_offset, is_at_start, shown_offset};
 pub use laws::nothing_kept_fits;
 pub use layout::{refresh, refresh_for, refresh_in};
 pub use offsets::place_in;
-pub use ranges::{boxed_range, is_scroll_container, is_scroller, shown_range};
+pub use ranges::{boxed_range, is_scroller, shown_range};
 pub use readings::size_of;
 pub use screens::{Screen, size_on};

@@ -95,7 +95,7 @@ fn scrolled<P: Styled>(
     HolderScroll { shift, on_screen }
 }
 
-// A place from the corner of a viewport, where what holds it and the viewport are scrolled so far.
+// A flat place, moved back by how far the elements that hold the box and the viewport are scrolled.
 fn moved_back(place: Point, inner: Shift, view: Shift) -> Point
     requires left { IsNear 256 place.left }
     requires top { IsNear 256 place.top }
@@ -113,7 +113,7 @@ fn moved_back(place: Point, inner: Shift, view: Shift) -> Point
     }
 }
 
-// What a viewport's scroll offset moves a box by: nothing that the screen holds.
+// How far a viewport's scroll offset moves a box: not at all where the screen holds it.
 fn view_shift(view: Point, on_screen: bool) -> Shift
     requires { IsOffset view }
     ensures left { result.across ≡ cond on_screen 0 (unsigned_abs view.left) }
@@ -129,8 +129,8 @@ fn view_shift(view: Point, on_screen: bool) -> Shift
 }
 
 /// The place of the border box of a node that has a box, in its document's viewport that is scrolled so far (CSSOM View, 6:
-/// `getBoundingClientRect`). It is so where the boxes in its view are held as they are now, and no length of that is above the largest
-/// one. No memory.
+/// `getBoundingClientRect`). Exact as long as the boxes in its view are up to date (`refresh_in`) and no length of the view is above the
+/// largest one. No memory.
 ///
 /// It goes up by the boxes of the node, its ancestors and those that hold it alone, with the heights that are kept above each; what is
 /// scrolled on the way is measured where its offset wasn't found before (`boxed_offsets`).

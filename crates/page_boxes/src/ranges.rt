@@ -1,12 +1,11 @@
 //! How far elements and viewports can be scrolled (CSS Overflow 3, 2.2; CSSOM View: scrolling area).
 
-ghost use Rattle.std.specs.Prelude.{◌≡◌, ◌<◌, ◌-◌, ◌&&◌, pos, cond, true, not, Some, None, length, is_some, unsigned_abs};
+ghost use Rattle.std.specs.Prelude.{◌≡◌, ◌<◌, ◌-◌, pos, cond, true, Some, None, length, is_some, unsigned_abs};
 ghost use Rattle.px_units.specs.Lengths.{cap};
-ghost use Rattle.layout_model.specs.Clips.{is_visible, is_clip, is_scroll_container};
+ghost use Rattle.layout_model.specs.Clips.{is_scroll_container};
 ghost use Rattle.layout_model.specs.Points.{minus, capped};
 ghost use Rattle.layout_model.specs.Views.{View, inputs_in_view};
 ghost use Rattle.layout_model.specs.Reach.{range_of as range_in, range_of_view};
-ghost use Rattle.style_values.specs.Seen.{seen_style};
 ghost use Rattle.page_model.specs.World.{Screen as WorldScreen};
 ghost use Rattle.page_model.specs.PageBoxes.{view_with, is_scroller};
 ghost use Rattle.scrolling.specs.Ranges.{IsLength, IsRange};
@@ -17,46 +16,19 @@ ghost use Rattle.page_tree.specs.Items.{IsNatural};
 ghost use Rattle.page_boxes.specs.Fresh.{HoldsAll};
 ghost use Rattle.page_boxes.specs.Pages.{seen_pair};
 
-use crate::climb::has_kids;
 use crate::documents::{ShownRoot, has_box};
-use block_layout::{Boxes, Styled};
+use block_layout::{Boxes, Styled, is_scroll_container};
 use element_tree::{NodeId, Tree};
 use kept_layout::Kept;
 use layout_model::capped;
 use page_tree::PageTree;
 use positioned_layout::reach;
 use px_units::Size;
-use style_values::{Overflow, Style};
 
 const NO_SIZE: Size = Size {
     width: 0,
     height: 0,
 };
-
-// Whether content that doesn't fit can be scrolled to (CSS Overflow 3, 3.1).
-fn is_scrollable(style: &Style) -> bool
-    ensures { let overflow = (seen_style style.now).overflow in result ≡ (not (is_visible overflow) && not (is_clip overflow)) }
-{
-    match style.overflow {
-        Overflow::Visible | Overflow::Clip => false,
-        Overflow::Hidden | Overflow::Scroll | Overflow::Auto => true,
-    }
-}
-
-/// Whether the node's box is a scroll container, where it has one (CSS Overflow 3, 3.1). What `overflow` says at a root element is the
-/// viewport's (CSS Overflow 3, 3.3).
-pub fn is_scroll_container<P: Styled>(tree: &Tree<P>, node: NodeId) -> bool
-    requires { node.0 < length tree.now.nodes }
-    ensures { result ≡ is_scroll_container (layout_tree P.style P.kind tree.now.nodes node.0) }
-{
-    if !has_kids(tree, node) {
-        return false;
-    }
-    if !is_scrollable(tree.payload(node).style()) {
-        return false;
-    }
-    tree.parent(node).is_some()
-}
 
 /// Whether an element is a scroll container with a box (CSS Overflow 3, 3.1). A root element is none.
 pub fn is_scroller(page: &PageTree, node: NodeId) -> bool
@@ -65,7 +37,7 @@ pub fn is_scroller(page: &PageTree, node: NodeId) -> bool
     has_box(page, node) && is_scroll_container(page.tree(), node)
 }
 
-// What is left of how far something reaches behind so much of it.
+// How much of a reach is beyond what is shown.
 fn behind(reach: i64, shown: i64) -> i64
     ensures value { result ≡ pos (cap (unsigned_abs reach - unsigned_abs shown)) }
     ensures range { IsLength result }
@@ -73,7 +45,7 @@ fn behind(reach: i64, shown: i64) -> i64
     capped(reach.unsigned_abs().saturating_sub(shown.unsigned_abs())) as i64
 }
 
-// The scrolling range of something that reaches so far and shows so much.
+// The scrolling range, by how far something reaches and how much of it is shown.
 pub(crate) fn range_between(reach: Size, shown: Size) -> Size
     ensures value { result ≡ as_size (capped (minus (seen_pair reach) (seen_pair shown))) }
     ensures range { IsRange result }
@@ -84,9 +56,9 @@ pub(crate) fn range_between(reach: Size, shown: Size) -> Size
     }
 }
 
-/// The scrolling range of a node that has a box (CSS Overflow 3, 2.2; CSSOM View: scrolling area): how far its content reaches
-/// beyond its padding box, 0 by 0 where it isn't a scroll container. It is so where the boxes in its view are held as they are now, and
-/// no length of that is above the largest one. No memory.
+/// The scrolling range of a node that has a box (CSS Overflow 3, 2.2; CSSOM View: scrolling area): how far its content reaches beyond its
+/// padding box, 0 by 0 where it isn't a scroll container. Exact as long as the boxes in its view are up to date (`refresh_in`) and no
+/// length of the view is above the largest one. No memory.
 ///
 /// It calls itself once a level of the tree below.
 pub fn boxed_range<P: Styled>(tree: &Tree<P>, boxes: &Kept, node: NodeId) -> Size
@@ -106,8 +78,8 @@ pub fn boxed_range<P: Styled>(tree: &Tree<P>, boxes: &Kept, node: NodeId) -> Siz
     range_between(reach, own.padding_size())
 }
 
-/// The scrolling range of the viewport in which a root element is shown (CSSOM View: scrolling area): how far the content reaches
-/// beyond the viewport. It is so where the boxes in its view are held as they are now. No memory.
+/// The scrolling range of the viewport in which a root element is shown (CSSOM View: scrolling area): how far the content reaches beyond
+/// the viewport. Exact as long as the boxes in its view are up to date (`refresh_in`). No memory.
 ///
 /// It calls itself once a level of the tree below.
 pub fn shown_range<P: Styled>(tree: &Tree<P>, boxes: &Kept, shown: ShownRoot) -> Size

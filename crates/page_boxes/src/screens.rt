@@ -11,7 +11,7 @@ ghost use Rattle.page_boxes.specs.Ranges.{IsSpan};
 use block_layout::BoxOf;
 use px_units::{BoxKind, Percent, Size};
 
-/// So many hundredths of a percent of a device pixel are one, at 1/64 CSS pixel a unit.
+/// A device pixel, in hundredths of a percent of 1/64 CSS pixel.
 const UNITS: u64 = 640_000;
 
 /// The screen of the top document (CSSOM View, 4).
@@ -34,7 +34,6 @@ fn device_pixels(ratio: Percent, units: i64) -> i64
     ((parts + UNITS / 2) / UNITS) as i64
 }
 
-// A size in device pixels.
 fn in_device_pixels(ratio: Percent, size: Size) -> Size
     requires ratio { IsHundredths ratio.0 }
     requires size { IsNatural size }

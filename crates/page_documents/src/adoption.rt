@@ -1,6 +1,7 @@
 //! Adoption of a subtree, and whether an element is shown.
 
-ghost use Rattle.std.specs.Prelude.{◌≡◌, ◌<◌, List, [], length};
+ghost use Rattle.std.specs.Prelude.{◌≡◌, ◌<◌, List, [], length, option_map};
+ghost use Rattle.element_tree.specs.Documents.{document_number};
 ghost use Rattle.element_tree.specs.Forest.{IsForest};
 ghost use Rattle.element_tree.specs.Edits.{with_nodes};
 ghost use Rattle.page_model.specs.World.{Document};
@@ -12,22 +13,22 @@ ghost use Rattle.page_documents.specs.Adoption.{adopting, adopted_in};
 use crate::entry::{DocumentState, Entry};
 use crate::finding::{LEVELS, is_in};
 use crate::owned::Owned;
-use element_tree::{NodeId, Tree};
+use element_tree::{DocumentId, NodeId, Tree};
 
 // Gives an element and its descendants to a document (DOM, 4.5: adopt).
-pub(crate) fn adopt<P: Owned>(tree: &mut Tree<P>, node: NodeId, document: u32)
+pub(crate) fn adopt<P: Owned>(tree: &mut Tree<P>, node: NodeId, document: DocumentId)
     requires { node.0 < length tree.old.nodes }
-    ensures adopted { tree.new ≡ adopted_in P.carried P.adopted document node.0 tree.old }
-    ensures seen { (documents : List Document) → seen_tree P.carried tree.new documents ≡ adopted (seen_tree P.carried tree.old documents) document node.0 }
+    ensures adopted { tree.new ≡ adopted_in P.carried P.adopted document.0 node.0 tree.old }
+    ensures seen { (documents : List Document) → seen_tree P.carried tree.new documents ≡ adopted (seen_tree P.carried tree.old documents) document.0 node.0 }
     ensures count { node.0 < length tree.new.nodes }
 {
     adopt_down(tree, node, LEVELS, document);
 }
 
 // At most `high` levels are looked at.
-fn adopt_down<P: Owned>(tree: &mut Tree<P>, node: NodeId, high: u32, document: u32)
+fn adopt_down<P: Owned>(tree: &mut Tree<P>, node: NodeId, high: u32, document: DocumentId)
     requires { node.0 < length tree.old.nodes }
-    ensures { tree.new ≡ with_nodes (change_each (adopting P.adopted document) (order_down high (seen_tree P.carried tree.old []) node.0)) tree.old }
+    ensures { tree.new ≡ with_nodes (change_each (adopting P.adopted document.0) (order_down high (seen_tree P.carried tree.old []) node.0)) tree.old }
 {
     if high == 0 {
         return;
@@ -59,7 +60,7 @@ fn is_root_element<P: Owned>(entries: &[Entry], tree: &Tree<P>, node: NodeId) ->
     requires { node.0 < length tree.now.nodes }
     ensures { result ≡ is_root_element (seen_tree P.carried tree.now entries.now) node.0 }
 {
-    let Some(entry) = entries.get(tree.payload(node).document() as usize) else {
+    let Some(entry) = entries.get(tree.payload(node).document().0 as usize) else {
         return false;
     };
     match entry.root() {
@@ -73,9 +74,9 @@ pub(crate) fn tree_document<P: Owned>(
     entries: &[Entry],
     tree: &Tree<P>,
     node: NodeId,
-) -> Option<u32>
+) -> Option<DocumentId>
     requires { node.0 < length tree.now.nodes }
-    ensures value { result ≡ tree_document (seen_tree P.carried tree.now entries.now) node.0 }
+    ensures value { option_map document_number result ≡ tree_document (seen_tree P.carried tree.now entries.now) node.0 }
     ensures forest { IsForest tree.now.most_depth tree.now.nodes }
 {
     if !is_root_element(entries, tree, top_of(tree, node)) {

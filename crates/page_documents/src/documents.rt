@@ -2,6 +2,7 @@
 
 ghost use Rattle.std.specs.Prelude.{◌≡◌, ◌≢◌, ℕ, Option, ◌<◌, ◌≤◌, ◌+◌, ◌++◌, ◌∷◌, [], length, option_map, Some, None, IfOk, not, IsSome, false, true, nat_lt};
 ghost use Rattle.smallvec.specs.SmallVec.{small_vec_len};
+ghost use Rattle.element_tree.specs.Documents.{document_number, document_numbers};
 ghost use Rattle.element_tree.specs.Links.{number};
 ghost use Rattle.page_model.specs.World.{Active, Dead, Tree as TreeModel};
 ghost use Rattle.page_model.specs.Lookups.{change_at, change_each, entry_or, no_document};
@@ -21,7 +22,7 @@ use crate::entry::{DocumentState, Entry};
 use crate::finding::{LEVELS, find_from, find_in, is_in};
 use crate::found::{Listed, Marks};
 use crate::owned::Owned;
-use element_tree::{NodeId, Tree};
+use element_tree::{DocumentId, NodeId, Tree};
 use smallvec::SmallVec;
 use std::alloc::{AllocError, Global};
 use std::marker::Model;
@@ -71,16 +72,16 @@ impl Documents {
         self.count() >= self.most
     }
 
-    /// Makes a Fresh document for a frame, and gives its number, which is `count` before (HTML, 7.3: content navigables). It
+    /// Makes a Fresh document for a frame, and gives its name, whose number is `count` before (HTML, 7.3: content navigables). It
     /// takes no memory. There has to be room for it, as `is_full` tells.
-    pub fn make(&mut self, frame: NodeId) -> u32
+    pub fn make(&mut self, frame: NodeId) -> DocumentId
         requires { has_room self.old ≡ true }
-        ensures number { result ≡ length self.old.held }
+        ensures number { result.0 ≡ length self.old.held }
         ensures made { self.new ≡ record self.old { held = self.old.held ++ new_document frame.0 ∷ [] } }
     {
-        let number = self.count();
+        let document = DocumentId(self.count());
         self.held.push_reserved(Entry::framed_by(frame));
-        number
+        document
     }
 
     /// How many documents are held, which is never more than `most`.
@@ -92,53 +93,53 @@ impl Documents {
     }
 
     /// The state of a document.
-    pub fn state(&self, document: u32) -> DocumentState
-        requires { document < length self.now.held }
-        ensures { seen_state result ≡ (entry_or no_document self.now.held document).state }
+    pub fn state(&self, document: DocumentId) -> DocumentState
+        requires { document.0 < length self.now.held }
+        ensures { seen_state result ≡ (entry_or no_document self.now.held document.0).state }
     {
-        self.held[document as usize].state()
+        self.held[document.0 as usize].state()
     }
 
     /// The frame of a document. None exactly for `top`.
-    pub fn frame_of(&self, document: u32) -> Option<NodeId>
-        requires { document < length self.now.held }
-        ensures value { option_map number result ≡ (entry_or no_document self.now.held document).frame }
-        ensures top { document ≡ 0 → result ≡ None }
-        ensures framed { document ≢ 0 → IsSome result }
+    pub fn frame_of(&self, document: DocumentId) -> Option<NodeId>
+        requires { document.0 < length self.now.held }
+        ensures value { option_map number result ≡ (entry_or no_document self.now.held document.0).frame }
+        ensures top { document.0 ≡ 0 → result ≡ None }
+        ensures framed { document.0 ≢ 0 → IsSome result }
     {
-        self.held[document as usize].frame()
+        self.held[document.0 as usize].frame()
     }
 
     /// The root element of a document, none where it has none (DOM, 4.5: document element).
-    pub fn root_of(&self, document: u32) -> Option<NodeId>
-        requires { document < length self.now.held }
-        ensures { option_map number result ≡ (entry_or no_document self.now.held document).root }
+    pub fn root_of(&self, document: DocumentId) -> Option<NodeId>
+        requires { document.0 < length self.now.held }
+        ensures { option_map number result ≡ (entry_or no_document self.now.held document.0).root }
     {
-        self.held[document as usize].root()
+        self.held[document.0 as usize].root()
     }
 
     /// Makes an element the root element of a document, or leaves it with none.
-    pub fn set_root(&mut self, document: u32, root: Option<NodeId>)
-        requires { document < length self.old.held }
-        ensures { self.new ≡ changing (λ it. record it { root = option_map number root }) document self.old }
+    pub fn set_root(&mut self, document: DocumentId, root: Option<NodeId>)
+        requires { document.0 < length self.old.held }
+        ensures { self.new ≡ changing (λ it. record it { root = option_map number root }) document.0 self.old }
     {
-        self.held[document as usize].set_root(root);
+        self.held[document.0 as usize].set_root(root);
     }
 
     /// The document in whose tree an element stands, none where it stands in no document's tree (DOM, 4.2.1: in a document tree).
-    pub fn tree_document<P: Owned>(&self, tree: &Tree<P>, node: NodeId) -> Option<u32>
+    pub fn tree_document<P: Owned>(&self, tree: &Tree<P>, node: NodeId) -> Option<DocumentId>
         requires { node.0 < length tree.now.nodes }
-        ensures { result ≡ tree_document (seen_tree P.carried tree.now self.now.held) node.0 }
+        ensures { option_map document_number result ≡ tree_document (seen_tree P.carried tree.now self.now.held) node.0 }
     {
         tree_document(self.held.as_slice(), tree, node)
     }
 
     /// The subtree of an element is taken out of the tree of a document: where that is Active, the Active documents in frames of
     /// the subtree become Dead for good, with those inside. It may be called before or after the element is taken out.
-    pub fn left<P: Owned>(&mut self, tree: &Tree<P>, node: NodeId, document: u32)
+    pub fn left<P: Owned>(&mut self, tree: &Tree<P>, node: NodeId, document: DocumentId)
         requires { node.0 < length tree.now.nodes }
-        ensures ended { self.new ≡ ending (is_active (seen_tree P.carried tree.now self.old.held) document) (seen_tree P.carried tree.now self.old.held) node.0 self.old }
-        ensures framed { (before : TreeModel) → AreFramed before → IsTakenOut before (seen_tree P.carried tree.now self.old.held) node.0 document →
+        ensures ended { self.new ≡ ending (is_active (seen_tree P.carried tree.now self.old.held) document.0) (seen_tree P.carried tree.now self.old.held) node.0 self.old }
+        ensures framed { (before : TreeModel) → AreFramed before → IsTakenOut before (seen_tree P.carried tree.now self.old.held) node.0 document.0 →
             AreFramed (seen_tree P.carried tree.now self.new.held) }
     {
         if is_in(self.held.as_slice(), document, DocumentState::Active) {
@@ -149,13 +150,13 @@ impl Documents {
     /// The subtree of an element was inserted under a document or under an element of this node document: it is adopted (DOM,
     /// 4.5), and where it stands in the tree of an Active document, the Fresh documents in frames of it become Active, with those
     /// inside. Documents of frames in it keep their own elements.
-    pub fn entered<P: Owned>(&mut self, tree: &mut Tree<P>, node: NodeId, document: u32)
+    pub fn entered<P: Owned>(&mut self, tree: &mut Tree<P>, node: NodeId, document: DocumentId)
         requires { node.0 < length tree.old.nodes }
-        ensures adopted { tree.new ≡ adopted_in P.carried P.adopted document node.0 tree.old }
-        ensures inserted { seen_tree P.carried tree.new self.new.held ≡ shown (adopted (seen_tree P.carried tree.old self.old.held) document node.0) node.0 }
+        ensures adopted { tree.new ≡ adopted_in P.carried P.adopted document.0 node.0 tree.old }
+        ensures inserted { seen_tree P.carried tree.new self.new.held ≡ shown (adopted (seen_tree P.carried tree.old self.old.held) document.0 node.0) node.0 }
         ensures shown { self.new ≡ opening (seen_tree P.carried tree.new self.old.held) node.0 self.old }
         ensures framed { (before : TreeModel) (container : Container) (sibling : Option ℕ) → AreFramed before →
-            IsPutIn before (seen_tree P.carried tree.old self.old.held) container node.0 sibling → document_of_container before container ≡ document →
+            IsPutIn before (seen_tree P.carried tree.old self.old.held) container node.0 sibling → document_of_container before container ≡ document.0 →
             AreFramed (seen_tree P.carried tree.new self.new.held) }
     {
         adopt(tree, node, document);
@@ -169,15 +170,15 @@ impl Documents {
     /// # Errors
     ///
     /// Where there is no memory.
-    pub fn active<P: Owned>(&self, tree: &Tree<P>) -> Result<Vec<u32>, AllocError>
-        ensures { IfOk result (λ found. found.items ≡ active_documents (seen_tree P.carried tree.now self.now.held)) }
+    pub fn active<P: Owned>(&self, tree: &Tree<P>) -> Result<Vec<DocumentId>, AllocError>
+        ensures { IfOk result (λ found. document_numbers found.items ≡ active_documents (seen_tree P.carried tree.now self.now.held)) }
     {
         let mut found = Listed::new(*self.held.allocator());
         find_from(
             self.held.as_slice(),
             tree,
             DocumentState::Active,
-            Some(0),
+            Some(DocumentId(0)),
             LEVELS,
             &mut found,
         )?;
@@ -185,11 +186,11 @@ impl Documents {
     }
 
     /// The documents from `top` to this one, each the one that holds the frame of the next. It takes no memory.
-    pub fn path<P: Owned>(&self, tree: &Tree<P>, document: u32) -> SmallVec<u32, 64>
-        requires { document < length self.now.held }
-        ensures path { result.items ≡ path_to (seen_tree P.carried tree.now self.now.held) document }
-        ensures top { AreFramed (seen_tree P.carried tree.now self.now.held) → is_active (seen_tree P.carried tree.now self.now.held) document ≡ true →
-            first_of_list result.items ≡ Some 0 }
+    pub fn path<P: Owned>(&self, tree: &Tree<P>, document: DocumentId) -> SmallVec<DocumentId, 64>
+        requires { document.0 < length self.now.held }
+        ensures path { document_numbers result.items ≡ path_to (seen_tree P.carried tree.now self.now.held) document.0 }
+        ensures top { AreFramed (seen_tree P.carried tree.now self.now.held) → is_active (seen_tree P.carried tree.now self.now.held) document.0 ≡ true →
+            first_of_list (document_numbers result.items) ≡ Some 0 }
     {
         let mut path = SmallVec::new(*self.held.allocator());
         self.climb(tree, document, self.count(), &mut path);
@@ -200,12 +201,12 @@ impl Documents {
     fn climb<P: Owned>(
         &self,
         tree: &Tree<P>,
-        document: u32,
+        document: DocumentId,
         high: u32,
-        path: &mut SmallVec<u32, 64>,
+        path: &mut SmallVec<DocumentId, 64>,
     )
         requires { small_vec_len path.old + high ≤ path.old.capacity }
-        ensures path { path.new.items ≡ path.old.items ++ way_down high (seen_tree P.carried tree.now self.now.held) document }
+        ensures path { document_numbers path.new.items ≡ document_numbers path.old.items ++ way_down high (seen_tree P.carried tree.now self.now.held) document.0 }
         ensures length { small_vec_len path.new ≤ small_vec_len path.old + high }
         ensures capacity { path.new.capacity ≡ path.old.capacity }
     {
@@ -219,10 +220,10 @@ impl Documents {
     }
 
     // The document that holds the frame of a document, if there is one.
-    fn holder_of<P: Owned>(&self, tree: &Tree<P>, document: u32) -> Option<u32>
-        ensures { result ≡ holder_of (seen_tree P.carried tree.now self.now.held) document }
+    fn holder_of<P: Owned>(&self, tree: &Tree<P>, document: DocumentId) -> Option<DocumentId>
+        ensures { option_map document_number result ≡ holder_of (seen_tree P.carried tree.now self.now.held) document.0 }
     {
-        let frame = self.held.get(document as usize)?.frame()?;
+        let frame = self.held.get(document.0 as usize)?.frame()?;
         if tree.holds(frame) {
             Some(tree.payload(frame).document())
         } else {

@@ -2,6 +2,7 @@
 
 ghost use Rattle.std.specs.Prelude.{◌≡◌, ◌<◌, ◌≤◌, true, false, length, OnOk, IfSome, option_map, option_to_list};
 ghost use Rattle.page_model.specs.World.{Dead};
+ghost use Rattle.element_tree.specs.Documents.{document_number};
 ghost use Rattle.element_tree.specs.Links.{number};
 ghost use Rattle.page_model.specs.Lookups.{entry_or, no_document};
 ghost use Rattle.page_model.specs.Documents.{led_to};
@@ -12,7 +13,7 @@ ghost use Rattle.page_documents.specs.Walks.{root_held, frames_down, taken};
 use crate::entry::{DocumentState, Entry};
 use crate::found::Finder;
 use crate::owned::Owned;
-use element_tree::{NodeId, Tree};
+use element_tree::{DocumentId, NodeId, Tree};
 
 /// As many levels of a tree, and of frames in frames, are looked at: more than there can be.
 pub(crate) const LEVELS: u32 = 65536;
@@ -59,44 +60,44 @@ pub(crate) fn find_from<P: Owned, F: Finder>(
     entries: &[Entry],
     tree: &Tree<P>,
     state: DocumentState,
-    document: Option<u32>,
+    document: Option<DocumentId>,
     deep: u32,
     finder: &mut F,
 ) -> Result<(), F::Fault>
     requires sought { is_in state Dead ≡ false }
     requires few { length entries.now ≤ 64 }
-    ensures { OnOk result (finder.new ≡ taken F.with (led_to deep (is_in state) (seen_tree P.carried tree.now entries.now) (option_to_list document)) finder.old) }
+    ensures { OnOk result (finder.new ≡ taken F.with (led_to deep (is_in state) (seen_tree P.carried tree.now entries.now) (option_to_list (option_map document_number document))) finder.old) }
 {
-    let Some(number) = document else {
+    let Some(found) = document else {
         return Ok(());
     };
-    if deep == 0 || !is_in(entries, number, state) {
+    if deep == 0 || !is_in(entries, found, state) {
         return Ok(());
     }
-    finder.take(number)?;
-    match root_in(entries, tree, number) {
+    finder.take(found)?;
+    match root_in(entries, tree, found) {
         Some(root) => find_in(entries, tree, state, root, LEVELS, deep - 1, finder),
         None => Ok(()),
     }
 }
 
 // Whether a document is in this state, which isn't Dead.
-pub(crate) fn is_in(entries: &[Entry], document: u32, state: DocumentState) -> bool
+pub(crate) fn is_in(entries: &[Entry], document: DocumentId, state: DocumentState) -> bool
     requires { is_in state Dead ≡ false }
-    ensures value { result ≡ is_in state (entry_or no_document entries.now document).state }
-    ensures held { result ≡ true → document < length entries.now }
+    ensures value { result ≡ is_in state (entry_or no_document entries.now document.0).state }
+    ensures held { result ≡ true → document.0 < length entries.now }
 {
-    match entries.get(document as usize) {
+    match entries.get(document.0 as usize) {
         Some(entry) => entry.is_in(state),
         None => false,
     }
 }
 
 // The root element of a document, if there is one in the tree.
-fn root_in<P: Owned>(entries: &[Entry], tree: &Tree<P>, document: u32) -> Option<NodeId>
-    ensures value { option_map number result ≡ root_held (seen_tree P.carried tree.now entries.now) document }
+fn root_in<P: Owned>(entries: &[Entry], tree: &Tree<P>, document: DocumentId) -> Option<NodeId>
+    ensures value { option_map number result ≡ root_held (seen_tree P.carried tree.now entries.now) document.0 }
     ensures held { IfSome result (λ root. root.0 < length tree.now.nodes) }
 {
-    let root = entries.get(document as usize)?.root()?;
+    let root = entries.get(document.0 as usize)?.root()?;
     if tree.holds(root) { Some(root) } else { None }
 }

@@ -1,8 +1,10 @@
 //! What a walk over documents hands its finds to.
 
 ghost use Rattle.std.specs.Prelude.{◌≡◌, ℕ, ◌<◌, ◌++◌, ◌∷◌, [], OnOk, true, slice_set, get_or};
+ghost use Rattle.element_tree.specs.Documents.{document_numbers};
 ghost use Rattle.page_documents.specs.Walks.{no_marks};
 
+use element_tree::DocumentId;
 use std::alloc::{AllocError, Global};
 use std::convert::Infallible;
 use std::marker::Model;
@@ -16,23 +18,24 @@ pub(crate) trait Finder {
 
     ghost with: { ℕ → Self → Self };
 
-    fn take(&mut self, document: u32) -> Result<(), Self::Fault>
-        requires { document < 64 }
-        ensures { OnOk result (self.new ≡ with document self.old) };
+    fn take(&mut self, document: DocumentId) -> Result<(), Self::Fault>
+        requires { document.0 < 64 }
+        ensures { OnOk result (self.new ≡ with document.0 self.old) };
 }
 
 // Documents in the order in which they are come to.
 #[derive(Drop)]
 pub(crate) struct Listed {
-    documents: Vec<u32>,
+    documents: Vec<DocumentId>,
 }
 
 impl Model for Listed {
     ghost use Rattle.std.specs.Prelude.{ℕ, List};
+    ghost use Rattle.element_tree.specs.Documents.{document_numbers};
 
     ghost Value = { List ℕ };
 
-    ghost view = { λ l. l.documents.items };
+    ghost view = { λ l. document_numbers l.documents.items };
 }
 
 impl Listed {
@@ -44,8 +47,8 @@ impl Listed {
         }
     }
 
-    pub(crate) fn into_documents(self) -> Vec<u32>
-        ensures { result.items ≡ self }
+    pub(crate) fn into_documents(self) -> Vec<DocumentId>
+        ensures { document_numbers result.items ≡ self }
     {
         let Listed { documents } = self;
         documents
@@ -57,7 +60,7 @@ impl Finder for Listed {
 
     ghost with = { λ document found. found ++ document ∷ [] };
 
-    fn take(&mut self, document: u32) -> Result<(), AllocError> {
+    fn take(&mut self, document: DocumentId) -> Result<(), AllocError> {
         self.documents.push(document)?;
         Ok(())
     }
@@ -99,8 +102,8 @@ impl Finder for Marks {
 
     ghost with = { λ document marks. slice_set marks document true };
 
-    fn take(&mut self, document: u32) -> Result<(), Infallible> {
-        self.marks[document as usize] = true;
+    fn take(&mut self, document: DocumentId) -> Result<(), Infallible> {
+        self.marks[document.0 as usize] = true;
         Ok(())
     }
 }

@@ -19,7 +19,7 @@ use Rattle.clip_chain.specs.declared.spot.Spot.{Spot}
 use Rattle.clip_chain.specs.declared.spot.Spot.TheVariants.{Node, View}
 use Rattle.clip_chain.specs.Scenes.{Scene}
 use Rattle.clip_chain.specs.Chains.{Leads, IsAbove}
-use Rattle.clip_chain.specs.Worlds.{element_spot, spot_of, spot_of_root, scene_of}
+use Rattle.clip_chain.specs.Worlds.{element_spot, spot_of, spot_of_root, scene_of, view_spot}
 use Rattle.clip_chain.proofs.Leading.{above_inwards}
 use Rattle.page_geometry.proofs.Standing.{active, boxed_document, holder_boxed, holder_document, frame_boxed}
 use Rattle.page_geometry.proofs.Levels.{count_is}
@@ -27,7 +27,7 @@ use Rattle.page_boxes.proofs.Views.{way_less, no_way}
 
 abbrev number_of : Spot → ℕ
 number_of (Node node) = node.0
-number_of (View document) = document
+number_of (View document) = document.0
 
 node_number : (a b : Spot) → a ≡ b → number_of a ≡ number_of b
 node_number a b same = ap number_of same
@@ -44,11 +44,11 @@ spot_same (Node a) (Node b) = by_number (nat_eq a.0 b.0) refl
     by_number false is = inr (λ same. let clash : nat_eq a.0 b.0 ≡ true = number_same a.0 b.0 (node_number (Node a) (Node b) same) in let no : true ≡ false = sym clash ∙ is in cc)
 spot_same (Node a) (View b) = inr (λ same. cc)
 spot_same (View a) (Node b) = inr (λ same. cc)
-spot_same (View a) (View b) = by_number (nat_eq a b) refl
+spot_same (View a) (View b) = by_number (nat_eq a.0 b.0) refl
   where
-    by_number : (same : Bool) → nat_eq a b ≡ same → (View a ≡ View b) ⊎ (¬ View a ≡ View b)
-    by_number true is = inl (ap View (eqb-true a b is))
-    by_number false is = inr (λ same. let clash : nat_eq a b ≡ true = number_same a b (node_number (View a) (View b) same) in let no : true ≡ false = sym clash ∙ is in cc)
+    by_number : (same : Bool) → nat_eq a.0 b.0 ≡ same → (View a ≡ View b) ⊎ (¬ View a ≡ View b)
+    by_number true is = inl (ap view_spot (eqb-true a.0 b.0 is))
+    by_number false is = inr (λ same. let clash : nat_eq a.0 b.0 ≡ true = number_same a.0 b.0 (node_number (View a) (View b) same) in let no : true ≡ false = sym clash ∙ is in cc)
 
 -- a root above what is above a spot is above it
 over : (scene : Scene) (low high from : Spot) (between : List Spot) → Leads scene from between low → (¬ low ≡ high) → IsAbove scene high low → IsAbove scene high from
@@ -89,18 +89,18 @@ module _ (tree : Tree) (screen : Screen) (scrolls : Scrolls) (framed : AreFramed
         ap (λ b. cond b (option_map spot_of (holding tree n)) None) boxed
         ∙ ap (λ by. option_map spot_of (container_held by (tree_document tree n))) is
 
-    viewport_by : (by : Holder) → element_of by ≡ None → option_map spot_of (container_held by (Some (own n))) ≡ Some (View (own n))
+    viewport_by : (by : Holder) → element_of by ≡ None → option_map spot_of (container_held by (Some (own n))) ≡ Some (view_spot (own n))
     viewport_by (HeldByElement h) none = cc
     viewport_by HeldByPage none = refl
     viewport_by HeldByScreen none = refl
 
-    pub in_view : element_of (holder (nodes_of tree) n) ≡ None → scene.container (element_spot n) ≡ Some (View (own n))
+    pub in_view : element_of (holder (nodes_of tree) n) ≡ None → scene.container (element_spot n) ≡ Some (view_spot (own n))
     in_view none =
         ap (λ b. cond b (option_map spot_of (holding tree n)) None) boxed
         ∙ ap (λ o. option_map spot_of (container_held (holder (nodes_of tree) n) o)) (boxed_document tree screen framed n boxed)
         ∙ viewport_by (holder (nodes_of tree) n) none
 
-  pub in_frame : (document frame : ℕ) → (document_at tree document).frame ≡ Some frame → scene.container (View document) ≡ Some (element_spot frame)
+  pub in_frame : (document frame : ℕ) → (document_at tree document).frame ≡ Some frame → scene.container (view_spot document) ≡ Some (element_spot frame)
   in_frame document frame is = ap (λ o. option_map spot_of (option_map InElement o)) is
 
   depth_falls : (most n h : ℕ) → element_depth tree n ≤ suc most → holder (nodes_of tree) n ≡ HeldByElement h → element_depth tree h ≤ most
@@ -112,13 +112,13 @@ module _ (tree : Tree) (screen : Screen) (scrolls : Scrolls) (framed : AreFramed
   depth_some n = depth_least (nodes_of tree) n
 
   -- the viewport of its document is above it
-  to_view : (most n : ℕ) → element_depth tree n ≤ most → has_box tree screen n ≡ true → IsAbove scene (View (own n)) (element_spot n)
+  to_view : (most n : ℕ) → element_depth tree n ≤ most → has_box tree screen n ≡ true → IsAbove scene (view_spot (own n)) (element_spot n)
   to_view zero n short boxed = absurd (omega (arith, depth_some n))
   to_view (suc most) n short boxed =
       elim (holder_cases (nodes_of tree) n) [
         | inl none ↦ ([], in_view n boxed none)
-        | inr h ↦ above_inwards scene (View (own n)) (element_spot n) (element_spot h.0) (in_holder n boxed h.0 h.1) (λ same. cc)
-            (subst (λ d. IsAbove scene (View d) (element_spot h.0)) (holder_document tree screen framed n h.0 h.1)
+        | inr h ↦ above_inwards scene (view_spot (own n)) (element_spot n) (element_spot h.0) (in_holder n boxed h.0 h.1) (λ same. cc)
+            (subst (λ d. IsAbove scene (view_spot d) (element_spot h.0)) (holder_document tree screen framed n h.0 h.1)
             (to_view most h.0 (depth_falls most n h.0 short h.1) (holder_boxed tree screen framed n h.0 h.1 boxed)))
       ]
 
@@ -173,22 +173,22 @@ module _ (tree : Tree) (screen : Screen) (scrolls : Scrolls) (framed : AreFramed
   unfolding way_down
   way_unframed high document is = ap (λ frame. first_of_list (way_above (way_down high tree) (owner_of tree frame) ++ document ∷ [])) is
 
-  not_top : (document frame : ℕ) → (document_at tree document).frame ≡ Some frame → ¬ View document ≡ View 0
+  not_top : (document frame : ℕ) → (document_at tree document).frame ≡ Some frame → ¬ view_spot document ≡ view_spot 0
   not_top document frame is = λ same.
-      let at : document ≡ 0 = node_number (View document) (View 0) same in
+      let at : document ≡ 0 = node_number (view_spot document) (view_spot 0) same in
       let clash : None ≡ Some frame = sym framed.top.unframed ∙ ap (λ d. (document_at tree d).frame) (sym at) ∙ is in cc
 
-  top_step : (n : ℕ) → has_box tree screen n ≡ true → IsAbove scene (View (own n)) (element_spot n) → (high : ℕ) → first_of_list (way_down (suc high) tree (own n)) ≡ Some 0
-      → ((frame : ℕ) → (document_at tree (own n)).frame ≡ Some frame → IsAbove scene (View 0) (element_spot frame))
-      → (frame : Option ℕ) → (document_at tree (own n)).frame ≡ frame → IsAbove scene (View 0) (element_spot n)
+  top_step : (n : ℕ) → has_box tree screen n ≡ true → IsAbove scene (view_spot (own n)) (element_spot n) → (high : ℕ) → first_of_list (way_down (suc high) tree (own n)) ≡ Some 0
+      → ((frame : ℕ) → (document_at tree (own n)).frame ≡ Some frame → IsAbove scene (view_spot 0) (element_spot frame))
+      → (frame : Option ℕ) → (document_at tree (own n)).frame ≡ frame → IsAbove scene (view_spot 0) (element_spot n)
   top_step n boxed below high leads up None is =
       let at : own n ≡ 0 = some_same (own n) 0 (sym (way_unframed high (own n) is) ∙ leads) in
-      subst (λ d. IsAbove scene (View d) (element_spot n)) at below
+      subst (λ d. IsAbove scene (view_spot d) (element_spot n)) at below
   top_step n boxed below high leads up (Some frame) is =
-      over scene (View (own n)) (View 0) (element_spot n) below.0 below.1 (not_top (own n) frame is)
-      (above_inwards scene (View 0) (View (own n)) (element_spot frame) (in_frame (own n) frame is) (λ same. cc) (up frame is))
+      over scene (view_spot (own n)) (view_spot 0) (element_spot n) below.0 below.1 (not_top (own n) frame is)
+      (above_inwards scene (view_spot 0) (view_spot (own n)) (element_spot frame) (in_frame (own n) frame is) (λ same. cc) (up frame is))
 
-  to_top : (high n : ℕ) → has_box tree screen n ≡ true → first_of_list (way_down (suc high) tree (own n)) ≡ Some 0 → IsAbove scene (View 0) (element_spot n)
+  to_top : (high n : ℕ) → has_box tree screen n ≡ true → first_of_list (way_down (suc high) tree (own n)) ≡ Some 0 → IsAbove scene (view_spot 0) (element_spot n)
   to_top zero n boxed leads =
       top_step n boxed (to_view (element_depth tree n) n (omega arith) boxed) 0 leads
       (λ frame is. absurd (no_way tree framed 0 (own frame) refl (way_less tree framed (own n) frame is 1 0 refl leads)))
@@ -204,7 +204,7 @@ module _ (tree : Tree) (screen : Screen) (scrolls : Scrolls) (framed : AreFramed
       let counted = count_is tree framed (own n) (active tree screen n boxed) (length tree.documents) refl in
       to_top counted.0 n boxed counted.2
   above (DocumentRoot document) n boxed near =
-      subst (λ d. IsAbove scene (View d) (element_spot n)) (eqb-true (own n) document (not_false (own n == document) near))
+      subst (λ d. IsAbove scene (view_spot d) (element_spot n)) (eqb-true (own n) document (not_false (own n == document) near))
       (to_view (element_depth tree n) n (omega arith) boxed)
   above (ElementRoot a) n boxed near =
       let proper : is_on_chain tree a n ≡ true = second_true (own n == own a) (is_on_chain tree a n) (not (has_box tree screen a)) (not (has_box tree screen n)) near in

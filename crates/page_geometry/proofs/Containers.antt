@@ -1,8 +1,7 @@
 -- The scene of a page, by what is read of it.
-use Rattle.std.proofs.Common.{◌≡◌, ◌≤◌, ◌<◌, ℕ, Bool, true, false, cond, nat_lt, length, Option, Some, None, option_map, refl, ap, sym, ◌∙◌}
+use Rattle.std.proofs.Common.{◌≡◌, ◌≤◌, ◌<◌, ℕ, true, false, cond, nat_lt, length, Option, Some, None, option_map, refl, ap, sym, ◌∙◌}
 use Rattle.std.specs.Prelude.{IfSome, ◌&&◌, not, is_some}
 use Rattle.layout_model.specs.Clips.{is_block, is_visible, is_clip, clips, is_scroll_container}
-use Rattle.layout_model.specs.Nodes.{Node as LayoutNode}
 use Rattle.page_model.specs.World.{Screen, Element, Tree, Scrolls}
 use Rattle.page_model.specs.Lookups.{document_at}
 use Rattle.page_model.specs.Documents.{InElement, nodes_of, element_depth}
@@ -11,9 +10,8 @@ use Rattle.page_model.specs.Shown.{shown_with}
 use Rattle.page_model.specs.Chains.{holding}
 use Rattle.page_documents.specs.Frames.{AreFramed}
 use Rattle.clip_chain.specs.declared.spot.Spot.{Spot}
-use Rattle.clip_chain.specs.declared.spot.Spot.TheVariants.{View}
 use Rattle.clip_chain.specs.Scenes.{Scene}
-use Rattle.clip_chain.specs.Worlds.{element_spot, spot_of, scene_of}
+use Rattle.clip_chain.specs.Worlds.{element_spot, spot_of, scene_of, view_spot}
 use Rattle.page_boxes.proofs.Pages.{missing_element}
 use Rattle.page_geometry.specs.Ranks.{rank_of}
 use Rattle.page_geometry.proofs.Ends.{falls}
@@ -24,13 +22,11 @@ missing_scrolls tree n past =
     ap (λ (it : Element).
     is_block it.item.kind && not (is_visible it.item.style.overflow) && is_some it.parent && not (is_clip it.item.style.overflow)) (missing_element tree n past)
 
--- a block that cuts its content
-pub clips_by : (node : LayoutNode) (result : Bool) → is_block node.item.kind ≡ true → not (is_visible node.item.style.overflow) ≡ true → result ≡ is_some node.parent
-    → result ≡ clips node
-clips_by node result block cuts is =
-    is
-    ∙ sym (ap (λ b. b && not (is_visible node.item.style.overflow) && is_some node.parent) block
-    ∙ ap (λ b. true && b && is_some node.parent) cuts)
+-- nor does its box clip
+pub missing_clips : (tree : Tree) (n : ℕ) → nat_lt n (length tree.elements) ≡ false → clips (nodes_of tree n) ≡ false
+missing_clips tree n past =
+    ap (λ (it : Element).
+    is_block it.item.kind && not (is_visible it.item.style.overflow) && is_some it.parent) (missing_element tree n past)
 
 module _ (tree : Tree) (screen : Screen) (scrolls : Scrolls) where
   abbrev scene : Scene
@@ -40,7 +36,7 @@ module _ (tree : Tree) (screen : Screen) (scrolls : Scrolls) where
     pub container_is : (found : Option Spot) → has_box tree screen n ≡ true → found ≡ option_map spot_of (holding tree n) → found ≡ scene.container (element_spot n)
     container_is found there is = is ∙ sym (ap (λ b. cond b (option_map spot_of (holding tree n)) None) there)
 
-  pub view_container : (document : ℕ) (found : Option Spot) → found ≡ option_map element_spot (document_at tree document).frame → found ≡ scene.container (View document)
+  pub view_container : (document : ℕ) (found : Option Spot) → found ≡ option_map element_spot (document_at tree document).frame → found ≡ scene.container (view_spot document)
   view_container document found is = is ∙ by_frame (document_at tree document).frame
     where
       by_frame : (frame : Option ℕ) → option_map element_spot frame ≡ option_map spot_of (option_map InElement frame)

@@ -15,7 +15,7 @@ use Rattle.clip_chain.specs.declared.spot.Spot.{Spot}
 use Rattle.clip_chain.specs.declared.spot.Spot.TheVariants.{Node, View}
 use Rattle.clip_chain.specs.Scenes.{Scene}
 use Rattle.clip_chain.specs.Chains.{Leads}
-use Rattle.clip_chain.specs.Worlds.{element_spot, spot_of, scene_of}
+use Rattle.clip_chain.specs.Worlds.{element_spot, spot_of, scene_of, view_spot}
 use Rattle.page_geometry.specs.Ranks.{level_of, rank_of}
 use Rattle.page_geometry.proofs.Standing.{active, boxed_document, holder_boxed, holder_document}
 use Rattle.page_geometry.proofs.Levels.{level_more, level_some, level_most}
@@ -53,7 +53,7 @@ module _ (tree : Tree) (screen : Screen) (scrolls : Scrolls) (framed : AreFramed
       → rank_of tree screen next < rank_of tree screen (element_spot n)
   to_viewport n boxed next leads =
       subst (λ spot. rank_of tree screen spot < rank_of tree screen (element_spot n))
-      (same_next (View (own n)) next (ap (λ o. option_map spot_of (option_map InDocument o)) (sym (boxed_document tree screen framed n boxed)) ∙ leads))
+      (same_next (view_spot (own n)) next (ap (λ o. option_map spot_of (option_map InDocument o)) (sym (boxed_document tree screen framed n boxed)) ∙ leads))
       (omega (arith, ranked n boxed, depth_some n))
 
   outwards : (n : ℕ) → has_box tree screen n ≡ true → (by : Holder) (next : Spot) → holder (nodes_of tree) n ≡ by
@@ -66,24 +66,24 @@ module _ (tree : Tree) (screen : Screen) (scrolls : Scrolls) (framed : AreFramed
   outwards n boxed HeldByScreen next is leads = to_viewport n boxed next leads
 
   frame_lower : (document frame : ℕ) → (document_at tree document).frame ≡ Some frame → (boxed : Bool) → has_box tree screen frame ≡ boxed
-      → rank_of tree screen (element_spot frame) < rank_of tree screen (View document)
+      → rank_of tree screen (element_spot frame) < rank_of tree screen (view_spot document)
   frame_lower document frame is true boxed =
       omega (arith, ranked frame boxed, level_more tree framed few document frame is (active tree screen frame boxed), deep frame)
   frame_lower document frame is false none =
       let more = level_some tree framed document frame is in omega (arith, unranked frame none, more.1)
 
   beyond : (document : ℕ) (frame : Option ℕ) (next : Spot) → (document_at tree document).frame ≡ frame
-      → option_map spot_of (option_map InElement frame) ≡ Some next → rank_of tree screen next < rank_of tree screen (View document)
+      → option_map spot_of (option_map InElement frame) ≡ Some next → rank_of tree screen next < rank_of tree screen (view_spot document)
   beyond document None next is leads = absurd (let no : ⊥ = cc in no)
   beyond document (Some frame) next is leads =
-      subst (λ spot. rank_of tree screen spot < rank_of tree screen (View document)) (same_next (element_spot frame) next leads)
+      subst (λ spot. rank_of tree screen spot < rank_of tree screen (view_spot document)) (same_next (element_spot frame) next leads)
       (frame_lower document frame is (has_box tree screen frame) refl)
 
   pub falls : (from next : Spot) → scene.container from ≡ Some next → rank_of tree screen next < rank_of tree screen from
   falls (Node node) next leads =
       let found = leads_on (has_box tree screen (node.0)) (option_map spot_of (holding tree (node.0))) next leads in
       outwards (node.0) found.0 (holder (nodes_of tree) (node.0)) next refl found.1
-  falls (View document) next leads = beyond document (document_at tree document).frame next refl leads
+  falls (View document) next leads = beyond document.0 (document_at tree document.0).frame next refl leads
 
   short : (from root : Spot) (between : List Spot) → Leads scene from between root → length between ≤ rank_of tree screen from
   short from root [] leads = omega arith
@@ -98,7 +98,7 @@ module _ (tree : Tree) (screen : Screen) (scrolls : Scrolls) (framed : AreFramed
       by_box : (boxed : Bool) → cond boxed (257 * level_of tree (own (node.0)) + element_depth tree (node.0)) 0 ≤ 65536
       by_box true = omega (arith, deep (node.0), level_most tree framed 64 (own (node.0)))
       by_box false = omega arith
-  rank_most (View document) = omega (arith, level_most tree framed 64 document)
+  rank_most (View document) = omega (arith, level_most tree framed 64 document.0)
 
   -- no chain is longer than the definition of clips looks
   pub few_between : (from root : Spot) (between : List Spot) → Leads scene from between root → length between ≤ 65536

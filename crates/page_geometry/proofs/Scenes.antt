@@ -18,7 +18,7 @@ use Rattle.clip_chain.specs.declared.spot.Spot.{Spot}
 use Rattle.clip_chain.specs.declared.spot.Spot.TheVariants.{Node, View}
 use Rattle.clip_chain.specs.Scenes.{Scene}
 use Rattle.clip_chain.specs.Chains.{Leads, IsAbove}
-use Rattle.clip_chain.specs.Worlds.{element_spot, spot_of, spot_of_root, scene_of}
+use Rattle.clip_chain.specs.Worlds.{element_spot, spot_of, spot_of_root, scene_of, view_spot}
 use Rattle.candidate_index.specs.declared.scene.Standing.{Standing}
 use Rattle.candidate_index.specs.declared.scene.Standing.TheVariants as standings
 use Rattle.candidate_index.specs.Registrations.{IfChained}
@@ -84,7 +84,7 @@ module _ (shown : Shown) (page : IsPageTree (shown.tree)) where
   in_viewport : (document : Option ℕ) (next : Spot) → ((d : ℕ) → document ≡ Some d → d < length tree.documents)
       → option_map spot_of (option_map InDocument document) ≡ Some next → IsThere tree next
   in_viewport None next there leads = absurd (let no : ⊥ = cc in no)
-  in_viewport (Some d) next there leads = subst (IsThere tree) (same_next (View d) next leads) (there d refl)
+  in_viewport (Some d) next there leads = subst (IsThere tree) (same_next (view_spot d) next leads) (there d refl)
 
   in_element : (n : ℕ) (by : Holder) (next : Spot) → holder (nodes_of tree) n ≡ by
       → option_map spot_of (container_held by (tree_document tree n)) ≡ Some next → IsThere tree next
@@ -93,7 +93,7 @@ module _ (shown : Shown) (page : IsPageTree (shown.tree)) where
   in_element n HeldByScreen next is leads = in_viewport (tree_document tree n) next (tree_there n) leads
 
   in_document : (document : ℕ) (frame : Option ℕ) (next : Spot) → (document_at tree document).frame ≡ frame
-      → option_map spot_of (option_map InElement frame) ≡ Some next → IsThere tree (View document) × IsThere tree next
+      → option_map spot_of (option_map InElement frame) ≡ Some next → IsThere tree (view_spot document) × IsThere tree next
   in_document document (Some frame) next is leads = (framed_there document frame is, subst (IsThere tree) (same_next (element_spot frame) next leads) (frame_there document frame is))
   in_document document None next is leads = absurd (let no : ⊥ = cc in no)
 
@@ -101,7 +101,7 @@ module _ (shown : Shown) (page : IsPageTree (shown.tree)) where
   both_there (Node node) next leads =
       let found = leads_on (has_box shown (node.0)) (option_map spot_of (holding tree (node.0))) next leads in
       (made_if_boxed tree shown.screen (node.0) found.0, in_element (node.0) (holder (nodes_of tree) (node.0)) next refl found.1)
-  both_there (View document) next leads = in_document document (document_at tree document).frame next refl leads
+  both_there (View document) next leads = in_document document.0 (document_at tree document.0).frame next refl leads
 
   pub there_along : (from root : Spot) → EachAlong (IsThere tree) scene from root
   there_along from root [] leads = let ends = both_there from root leads in (ends.0, (ends.1, tt))

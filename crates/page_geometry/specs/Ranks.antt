@@ -24,6 +24,6 @@ level_of tree document = level_up (common_limit limits.Documents) tree document
 
 -- a level of documents has room for all depths of elements
 abbrev pub rank_of : Tree → Screen → Spot → ℕ
-rank_of tree screen (View document) = 257 * level_of tree document
+rank_of tree screen (View document) = 257 * level_of tree document.0
 rank_of tree screen (Node node) =
     cond (has_box tree screen (node.0)) (257 * level_of tree (element_at tree (node.0)).document + element_depth tree (node.0)) 0

@@ -21,7 +21,7 @@ pub record IsPageTree (tree : Tree) : Type 0 where
 -- a spot of an element or a document that there is
 abbrev pub IsThere : Tree → Spot → Type 0
 IsThere tree (Node node) = node.0 < length tree.elements
-IsThere tree (View document) = document < length tree.documents
+IsThere tree (View document) = document.0 < length tree.documents
 
 abbrev pub standings_of : Shown → Root → ℕ → Standing
 standings_of shown root target = standing_in (relation shown root target)

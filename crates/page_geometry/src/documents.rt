@@ -1,9 +1,10 @@
-//! What was found of the documents that were looked at.
+//! What was found of documents before a reading.
 
 ghost use Rattle.std.specs.Prelude.{◌≡◌, ◌<◌, Some, None, replicate, slice_set};
 ghost use Rattle.page_geometry.specs.Found.{found_at};
 
 use crate::view::DocumentView;
+use element_tree::DocumentId;
 use page_documents::MOST_DOCUMENTS;
 use px_units::Point;
 use std::marker::Model;
@@ -39,17 +40,17 @@ impl FoundDocuments {
         }
     }
 
-    pub(crate) fn of(&self, document: u32) -> Option<FoundDocument>
-        requires { document < 64 }
-        ensures { result ≡ found_at self.now document }
+    pub(crate) fn of(&self, document: DocumentId) -> Option<FoundDocument>
+        requires { document.0 < 64 }
+        ensures { result ≡ found_at self.now document.0 }
     {
-        self.documents[document as usize]
+        self.documents[document.0 as usize]
     }
 
-    pub(crate) fn put(&mut self, document: u32, found: FoundDocument)
-        requires { document < 64 }
-        ensures { self.new ≡ slice_set self.old document (Some found) }
+    pub(crate) fn put(&mut self, document: DocumentId, found: FoundDocument)
+        requires { document.0 < 64 }
+        ensures { self.new ≡ slice_set self.old document.0 (Some found) }
     {
-        self.documents[document as usize] = Some(found);
+        self.documents[document.0 as usize] = Some(found);
     }
 }

@@ -1,48 +1,31 @@
 //! A page as chains of containers see it.
 
-ghost use Rattle.std.specs.Prelude.{◌≡◌, not};
-ghost use Rattle.layout_model.specs.Clips.{clips, is_visible, is_scroll_container};
-ghost use Rattle.style_values.specs.Seen.{seen_style};
+ghost use Rattle.std.specs.Prelude.{◌≡◌};
+ghost use Rattle.layout_model.specs.Clips.{clips, is_scroll_container};
 ghost use Rattle.page_model.specs.Documents.{nodes_of};
 ghost use Rattle.page_tree.specs.Steps.{seen_container};
 ghost use Rattle.clip_chain.specs.Worlds.{spot_of};
 
 use crate::rects::{NO_RECT, border_rect, padding_rect, viewport_rect};
 use crate::shown::Shown;
-use block_layout::ItemKind;
+use block_layout::is_clipping;
 use clip_chain::{Geometry, Scrolls, Spot};
 use element_tree::NodeId;
 use page_tree::{Container, PageTree};
 use px_units::Rect;
-use style_values::{Overflow, Style};
-
-fn is_cut(style: &Style) -> bool
-    ensures { result ≡ not (is_visible (seen_style style.now).overflow) }
-{
-    match style.overflow {
-        Overflow::Visible => false,
-        Overflow::Hidden | Overflow::Clip | Overflow::Scroll | Overflow::Auto => true,
-    }
-}
 
 // Whether an element's box clips its content, at its padding box (CSS Overflow 3, 3.1 and 3.3).
 pub(crate) fn clips(page: &PageTree, node: NodeId) -> bool
     ensures { result ≡ clips (nodes_of (page.now.tree) node.0) }
 {
-    if !page.holds(node) {
-        return false;
-    }
-    match page.kind(node) {
-        ItemKind::Block => is_cut(page.style(node)) && page.tree().parent(node).is_some(),
-        ItemKind::Image(_) | ItemKind::Frame => false,
-    }
+    page.holds(node) && is_clipping(page.tree(), node)
 }
 
 // Whether an element's box is a scroll container, where it has one (CSS Overflow 3, 3.1 and 3.3).
 fn is_scroll_container(page: &PageTree, node: NodeId) -> bool
     ensures { result ≡ is_scroll_container (nodes_of (page.now.tree) node.0) }
 {
-    page.holds(node) && page_boxes::is_scroll_container(page.tree(), node)
+    page.holds(node) && block_layout::is_scroll_container(page.tree(), node)
 }
 
 fn spot_of(container: Container) -> Spot

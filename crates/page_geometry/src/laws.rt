@@ -1,4 +1,4 @@
-//! What is so of the chains and findings of every page: each law is the clause of a function that does nothing.
+//! Laws of the chains and findings of every page: each is the clause of a function that does nothing.
 
 ghost use Rattle.std.specs.Prelude.{◌≡◌, ◌≤◌, ℕ, List, length};
 ghost use Rattle.script_model.specs.Margins.{Margins};

@@ -6,12 +6,13 @@ ghost use Rattle.page_model.specs.Scrolling.{scroll_document};
 ghost use Rattle.scrolling.specs.Seen.{seen_target};
 ghost use Rattle.page_tree.specs.Steps.{seen_container};
 
+use element_tree::DocumentId;
 use page_tree::{Container, PageTree};
 use scrolling::ScrollTarget;
 
 /// The node document of an element, or the document itself.
-pub fn document_read(page: &PageTree, container: Container) -> u32
-    ensures { result ≡ document_of_container page.now.tree (seen_container container) }
+pub fn document_read(page: &PageTree, container: Container) -> DocumentId
+    ensures { result.0 ≡ document_of_container page.now.tree (seen_container container) }
 {
     match container {
         Container::Element(node) => page.document_of(node),
@@ -20,8 +21,8 @@ pub fn document_read(page: &PageTree, container: Container) -> u32
 }
 
 /// The node document of an element that scrolls, or the document whose viewport does.
-pub fn document_scrolled(page: &PageTree, target: ScrollTarget) -> u32
-    ensures { result ≡ scroll_document page.now.tree (seen_target target) }
+pub fn document_scrolled(page: &PageTree, target: ScrollTarget) -> DocumentId
+    ensures { result.0 ≡ scroll_document page.now.tree (seen_target target) }
 {
     match target {
         ScrollTarget::Node(node) => page.document_of(node),

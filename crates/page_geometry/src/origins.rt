@@ -5,6 +5,7 @@ ghost use Rattle.page_model.specs.Chains.{added, origin, origin_up};
 ghost use Rattle.page_geometry.specs.Ranges.{IsCorner, IsOrigin};
 
 use crate::shown::Shown;
+use element_tree::DocumentId;
 use px_units::Point;
 
 pub(crate) const NOWHERE: Point = Point { left: 0, top: 0 };
@@ -23,10 +24,10 @@ fn added(corner: Point, around: Point, frames: u32) -> Point
     }
 }
 
-// Where the viewport of a document begins, so many frames looked at.
-fn origin_up(shown: &Shown<'_>, document: u32, high: u32) -> Point
+// Where the viewport of a document begins, following `high` frames at most.
+fn origin_up(shown: &Shown<'_>, document: DocumentId, high: u32) -> Point
     requires { high ≤ 64 }
-    ensures value { result ≡ origin_up high shown.now document }
+    ensures value { result ≡ origin_up high shown.now document.0 }
     ensures range { IsOrigin high result }
 {
     if high == 0 {
@@ -43,11 +44,11 @@ fn origin_up(shown: &Shown<'_>, document: u32, high: u32) -> Point
     added(corner, around, high - 1)
 }
 
-// Where the viewport of a document begins: at the zero point for `top`, and for a document whose frame has no box.
+// Where the viewport of a document begins: at the origin for `top`, and for a document whose frame has no box.
 //
-// It calls itself once for each frame around a document of which it wasn't found.
-pub(crate) fn origin(shown: &Shown<'_>, document: u32) -> Point
-    ensures value { result ≡ origin shown.now document }
+// It calls itself once for each frame around the document, up to one whose origin was found before.
+pub(crate) fn origin(shown: &Shown<'_>, document: DocumentId) -> Point
+    ensures value { result ≡ origin shown.now document.0 }
     ensures range { IsOrigin 64 result }
 {
     match shown.found_origin(document) {

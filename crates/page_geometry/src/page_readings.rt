@@ -22,7 +22,7 @@ ghost use Rattle.page_geometry.specs.Ranges.{IsCorner};
 use crate::meant::{document_read, document_scrolled};
 use crate::readings::Reading;
 use crate::shown::Shown;
-use element_tree::NodeId;
+use element_tree::{DocumentId, NodeId};
 use page_tree::Container;
 use px_units::{BoxKind, Point, Rect, Size};
 use scrolling::ScrollTarget;
@@ -37,8 +37,8 @@ impl Shown<'_> {
 
     /// The size of a document's viewport (CSSOM View, 4: `innerWidth`, `innerHeight`): for `top` that of its screen, and for another
     /// document the content box of its frame, 0 by 0 where that has no box.
-    pub fn viewport_of(&self, document: u32) -> Size
-        ensures value { result ≡ as_size (pair_of (viewport_of self.now document)) }
+    pub fn viewport_of(&self, document: DocumentId) -> Size
+        ensures value { result ≡ as_size (pair_of (viewport_of self.now document.0)) }
         ensures range { IsNatural result }
     {
         self.in_document(document).viewport()

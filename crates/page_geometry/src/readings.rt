@@ -40,7 +40,7 @@ pub(crate) const NO_SIZE: Size = Size {
     height: 0,
 };
 
-// The point that lies so far to the right of a place and below it.
+// The point at an offset from a place.
 fn beside(place: Point, by: Point) -> Point
     requires left { IsPlace place.left }
     requires top { IsPlace place.top }

@@ -8,7 +8,7 @@ ghost use Rattle.page_geometry.specs.Ranges.{IsOrigin, IsMoved, IsRectReached};
 
 use crate::origins::origin;
 use crate::shown::Shown;
-use element_tree::NodeId;
+use element_tree::{DocumentId, NodeId};
 use px_units::{Point, Rect, shift};
 
 pub(crate) const NO_RECT: Rect = Rect {
@@ -18,7 +18,7 @@ pub(crate) const NO_RECT: Rect = Rect {
     bottom: 0,
 };
 
-// A rectangle in the viewport of a document that begins there.
+// A rectangle in the viewport of a document that begins at `by`.
 fn moved_by(by: Point, rect: Rect) -> Rect
     requires by { IsOrigin 64 by }
     requires edges { AreEdges rect }
@@ -30,7 +30,7 @@ fn moved_by(by: Point, rect: Rect) -> Rect
     shift(rect, by.left, by.top)
 }
 
-// A rectangle as it is in the viewport of a document that begins there.
+// A rectangle in the coordinates of the viewport of a document that begins at `from`.
 pub(crate) fn moved_back(from: Point, rect: Rect) -> Rect
     requires from { IsOrigin 64 from }
     requires rect { IsMoved rect }
@@ -40,9 +40,8 @@ pub(crate) fn moved_back(from: Point, rect: Rect) -> Rect
     shift(rect, -from.left, -from.top)
 }
 
-// The viewport of a document.
-pub(crate) fn viewport_rect(shown: &Shown<'_>, document: u32) -> Rect
-    ensures value { result ≡ viewport_rect shown.now document }
+pub(crate) fn viewport_rect(shown: &Shown<'_>, document: DocumentId) -> Rect
+    ensures value { result ≡ viewport_rect shown.now document.0 }
     ensures range { IsBounds result }
 {
     let size = shown.viewport_of(document);
@@ -55,7 +54,6 @@ pub(crate) fn viewport_rect(shown: &Shown<'_>, document: u32) -> Rect
     moved_by(origin(shown, document), own)
 }
 
-// The border box of an element.
 pub(crate) fn border_rect(shown: &Shown<'_>, node: NodeId) -> Rect
     ensures value { result ≡ border_rect shown.now node.0 }
     ensures range { IsBounds result }
@@ -64,7 +62,6 @@ pub(crate) fn border_rect(shown: &Shown<'_>, node: NodeId) -> Rect
     moved_by(origin(shown, shown.document_of(node)), own)
 }
 
-// The padding box of an element.
 pub(crate) fn padding_rect(shown: &Shown<'_>, node: NodeId) -> Rect
     ensures value { result ≡ padding_rect shown.now node.0 }
     ensures range { IsBounds result }

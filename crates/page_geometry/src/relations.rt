@@ -37,9 +37,9 @@ pub(crate) fn is_apart(shown: &Shown<'_>, root: Root, target: NodeId) -> bool
 {
     match root {
         Root::Implicit => false,
-        Root::Document(document) => shown.document_of(target) != document,
+        Root::Document(document) => shown.document_of(target).0 != document.0,
         Root::Node(node) => {
-            shown.document_of(target) != shown.document_of(node)
+            shown.document_of(target).0 != shown.document_of(node).0
                 || !is_on_chain(shown.page(), node, target)
                 || !shown.has_box(node)
                 || !shown.has_box(target)

@@ -11,6 +11,7 @@ use crate::geometry::clips;
 use crate::origins::{NOWHERE, origin};
 use crate::rects::{NO_RECT, border_rect, padding_rect, viewport_rect};
 use crate::shown::Shown;
+use element_tree::DocumentId;
 use intersection_observer::Root;
 use px_units::{Point, Rect};
 
@@ -39,7 +40,7 @@ pub(crate) fn root_bounds(shown: &Shown<'_>, root: Root) -> Rect
     ensures range { IsBounds result }
 {
     match root {
-        Root::Implicit => viewport_rect(shown, 0),
+        Root::Implicit => viewport_rect(shown, DocumentId(0)),
         Root::Document(document) => viewport_rect(shown, document),
         Root::Node(node) => {
             if !shown.has_box(node) {

@@ -20,7 +20,6 @@ use px_units::{Point, Size};
 use scrolling::ScrollTarget;
 
 impl ShownDocument<'_> {
-    // The scrolling range of an element.
     fn element_range(&self, node: NodeId) -> Size
         requires { (element_at self.now.shown.tree node.0).document ≡ self.now.document }
         ensures value { result ≡ as_size (pair_of (scroll_range self.now.shown (ScrolledElement node.0))) }

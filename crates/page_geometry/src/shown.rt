@@ -21,7 +21,7 @@ use crate::documents::{FoundDocument, FoundDocuments};
 use crate::origins::origin;
 use crate::shown_document::ShownDocument;
 use crate::view::{DocumentView, view_in};
-use element_tree::{NodeId, Tree};
+use element_tree::{DocumentId, NodeId, Tree};
 use kept_layout::Kept;
 use number_map::NumberMap;
 use page_boxes::{Screen, boxed_offsets};
@@ -92,7 +92,7 @@ impl<'a> Shown<'a> {
         let mut shown = self;
         let count = shown.document_count();
         for document in 0..count {
-            shown.look_at(document);
+            shown.look_at(DocumentId(document));
         }
         shown
     }
@@ -107,7 +107,7 @@ impl<'a> Shown<'a> {
         let mut shown = self.with_scrollers(alloc).with_offsets();
         let count = shown.document_count();
         for document in 0..count {
-            shown.place(document);
+            shown.place(DocumentId(document));
         }
         shown
     }
@@ -129,23 +129,23 @@ impl<'a> Shown<'a> {
         let mut shown = self;
         let count = shown.document_count();
         for document in 0..count {
-            shown.measure(document);
+            shown.measure(DocumentId(document));
         }
         shown
     }
 
     // Keeps what was found of a document.
-    fn keep(&mut self, document: u32, found: FoundDocument)
-        requires small { document < 64 }
-        requires found { IsFound self.old document found }
+    fn keep(&mut self, document: DocumentId, found: FoundDocument)
+        requires small { document.0 < 64 }
+        requires found { IsFound self.old document.0 found }
         ensures { self.new ≡ self.old }
     {
         self.found.put(document, found);
     }
 
     // Finds what a document shows and how large its viewport is.
-    fn look_at(&mut self, document: u32)
-        requires { document < 64 }
+    fn look_at(&mut self, document: DocumentId)
+        requires { document.0 < 64 }
         ensures { self.new ≡ self.old }
     {
         let view = self.view_of(document);
@@ -153,8 +153,8 @@ impl<'a> Shown<'a> {
     }
 
     // Finds besides how far its viewport is scrolled.
-    fn measure(&mut self, document: u32)
-        requires { document < 64 }
+    fn measure(&mut self, document: DocumentId)
+        requires { document.0 < 64 }
         ensures { self.new ≡ self.old }
     {
         let view = self.in_document(document).with_offset().view();
@@ -162,8 +162,8 @@ impl<'a> Shown<'a> {
     }
 
     // Finds where the viewport of a document begins.
-    fn place(&mut self, document: u32)
-        requires { document < 64 }
+    fn place(&mut self, document: DocumentId)
+        requires { document.0 < 64 }
         ensures { self.new ≡ self.old }
     {
         let view = self.view_of(document);
@@ -172,10 +172,10 @@ impl<'a> Shown<'a> {
     }
 
     // What was found of a document, none where it wasn't looked at.
-    pub(crate) fn found(&self, document: u32) -> Option<FoundDocument>
-        ensures { IfSome result (IsFound self.now document) }
+    pub(crate) fn found(&self, document: DocumentId) -> Option<FoundDocument>
+        ensures { IfSome result (IsFound self.now document.0) }
     {
-        if document < 64 {
+        if document.0 < 64 {
             self.found.of(document)
         } else {
             None
@@ -183,8 +183,8 @@ impl<'a> Shown<'a> {
     }
 
     // Where the viewport of a document begins, none where it wasn't found.
-    pub(crate) fn found_origin(&self, document: u32) -> Option<Point>
-        ensures { IfSome result (IsBeginning self.now document) }
+    pub(crate) fn found_origin(&self, document: DocumentId) -> Option<Point>
+        ensures { IfSome result (IsBeginning self.now document.0) }
     {
         match self.found(document) {
             Some(found) => found.origin,
@@ -218,25 +218,25 @@ impl<'a> Shown<'a> {
     }
 
     /// The frame that a document is in.
-    pub fn frame_of(&self, document: u32) -> Option<NodeId>
-        ensures { option_map number result ≡ (document_at self.now.tree document).frame }
+    pub fn frame_of(&self, document: DocumentId) -> Option<NodeId>
+        ensures { option_map number result ≡ (document_at self.now.tree document.0).frame }
     {
         self.page.frame_of(document)
     }
 
     /// The node document of an element.
-    pub fn document_of(&self, node: NodeId) -> u32
-        ensures { result ≡ (element_at self.now.tree node.0).document }
+    pub fn document_of(&self, node: NodeId) -> DocumentId
+        ensures { result.0 ≡ (element_at self.now.tree node.0).document }
     {
         self.page.document_of(node)
     }
 
     // What a document shows, by a climb where it wasn't found yet.
-    fn view_of(&self, document: u32) -> DocumentView
-        ensures root { option_map number result.root ≡ (view_of self.now.tree self.now.screen document).root }
-        ensures size { result.size ≡ as_size (pair_of (viewport_of self.now document)) }
+    fn view_of(&self, document: DocumentId) -> DocumentView
+        ensures root { option_map number result.root ≡ (view_of self.now.tree self.now.screen document.0).root }
+        ensures size { result.size ≡ as_size (pair_of (viewport_of self.now document.0)) }
         ensures range { IsNatural result.size }
-        ensures offset { IfSome result.offset (IsViewOffset self.now document) }
+        ensures offset { IfSome result.offset (IsViewOffset self.now document.0) }
     {
         match self.found(document) {
             Some(found) => found.view,
@@ -245,8 +245,8 @@ impl<'a> Shown<'a> {
     }
 
     // What is shown of one document.
-    pub(crate) fn in_document(&self, document: u32) -> ShownDocument<'_>
-        ensures { result ≡ record { shown = self.now; document = document } }
+    pub(crate) fn in_document(&self, document: DocumentId) -> ShownDocument<'_>
+        ensures { result ≡ record { shown = self.now; document = document.0 } }
     {
         let view = self.view_of(document);
         ShownDocument::with_view(

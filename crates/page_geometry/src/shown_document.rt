@@ -17,7 +17,7 @@ ghost use Rattle.page_geometry.specs.Documents.{IsViewOffset, AreOffsetsIn};
 
 use crate::view::{DocumentView, view_in};
 use block_layout::BoxOf;
-use element_tree::{NodeId, Tree};
+use element_tree::{DocumentId, NodeId, Tree};
 use kept_layout::Kept;
 use number_map::NumberMap;
 use page_boxes::{Screen, ShownRoot, box_below, has_box_below};
@@ -35,7 +35,7 @@ pub struct ShownDocument<'a> {
     boxes: &'a Kept,
     scrolls: &'a Scrolls,
     screen: Screen,
-    document: u32,
+    document: DocumentId,
     view: DocumentView,
     offsets: Option<&'a NumberMap<Point>>,
 }
@@ -54,15 +54,15 @@ impl<'a> Model for ShownDocument<'a> {
     ghost use Rattle.page_boxes.specs.Fresh.{IsFreshIn};
     ghost use Rattle.page_boxes.specs.Pages.{seen_screen, IsScreen};
 
-    ghost view = { λ s. record { shown = shown_with s.page.now.tree (seen_screen s.screen) s.scrolls.now; document = s.document } };
+    ghost view = { λ s. record { shown = shown_with s.page.now.tree (seen_screen s.screen) s.scrolls.now; document = s.document.0 } };
 
     ghost invariant = { λ s. IsScreen s.screen
-        × IsFreshIn s.page.now.tree (seen_screen s.screen) s.boxes.now s.document
-        × option_map number s.view.root ≡ (view_of s.page.now.tree (seen_screen s.screen) s.document).root
-        × s.view.size ≡ as_size (pair_of (viewport_of s.page.now.tree (seen_screen s.screen) s.document))
+        × IsFreshIn s.page.now.tree (seen_screen s.screen) s.boxes.now s.document.0
+        × option_map number s.view.root ≡ (view_of s.page.now.tree (seen_screen s.screen) s.document.0).root
+        × s.view.size ≡ as_size (pair_of (viewport_of s.page.now.tree (seen_screen s.screen) s.document.0))
         × IsNatural s.view.size
-        × IfSome s.view.offset (IsViewOffset (shown_with s.page.now.tree (seen_screen s.screen) s.scrolls.now) s.document)
-        × IfSome s.offsets (λ map. AreOffsetsIn (shown_with s.page.now.tree (seen_screen s.screen) s.scrolls.now) s.document map.now) };
+        × IfSome s.view.offset (IsViewOffset (shown_with s.page.now.tree (seen_screen s.screen) s.scrolls.now) s.document.0)
+        × IfSome s.offsets (λ map. AreOffsetsIn (shown_with s.page.now.tree (seen_screen s.screen) s.scrolls.now) s.document.0 map.now) };
 }
 
 impl<'a> ShownDocument<'a> {
@@ -76,12 +76,12 @@ impl<'a> ShownDocument<'a> {
         boxes: &'a Kept,
         scrolls: &'a Scrolls,
         screen: Screen,
-        document: u32,
+        document: DocumentId,
     ) -> ShownDocument<'a>
         requires screen { IsScreen screen }
-        requires fresh { IsFreshIn page.now.tree (seen_screen screen) boxes.now document }
-        requires above { IsFreshAbove page.now.tree (seen_screen screen) boxes.now document }
-        ensures { result ≡ record { shown = shown_with page.now.tree (seen_screen screen) scrolls.now; document = document } }
+        requires fresh { IsFreshIn page.now.tree (seen_screen screen) boxes.now document.0 }
+        requires above { IsFreshAbove page.now.tree (seen_screen screen) boxes.now document.0 }
+        ensures { result ≡ record { shown = shown_with page.now.tree (seen_screen screen) scrolls.now; document = document.0 } }
     {
         let view = view_in(page, boxes, screen, document);
         ShownDocument::with_view(page, boxes, scrolls, screen, document, view, None)
@@ -93,18 +93,18 @@ impl<'a> ShownDocument<'a> {
         boxes: &'a Kept,
         scrolls: &'a Scrolls,
         screen: Screen,
-        document: u32,
+        document: DocumentId,
         view: DocumentView,
         offsets: Option<&'a NumberMap<Point>>,
     ) -> ShownDocument<'a>
         requires screen { IsScreen screen }
-        requires fresh { IsFreshIn page.now.tree (seen_screen screen) boxes.now document }
-        requires root { option_map number view.root ≡ (view_of page.now.tree (seen_screen screen) document).root }
-        requires size { view.size ≡ as_size (pair_of (viewport_of (shown_with page.now.tree (seen_screen screen) scrolls.now) document)) }
+        requires fresh { IsFreshIn page.now.tree (seen_screen screen) boxes.now document.0 }
+        requires root { option_map number view.root ≡ (view_of page.now.tree (seen_screen screen) document.0).root }
+        requires size { view.size ≡ as_size (pair_of (viewport_of (shown_with page.now.tree (seen_screen screen) scrolls.now) document.0)) }
         requires range { IsNatural view.size }
-        requires offset { IfSome view.offset (IsViewOffset (shown_with page.now.tree (seen_screen screen) scrolls.now) document) }
-        requires offsets { IfSome offsets (λ map. AreOffsetsIn (shown_with page.now.tree (seen_screen screen) scrolls.now) document map.now) }
-        ensures { result ≡ record { shown = shown_with page.now.tree (seen_screen screen) scrolls.now; document = document } }
+        requires offset { IfSome view.offset (IsViewOffset (shown_with page.now.tree (seen_screen screen) scrolls.now) document.0) }
+        requires offsets { IfSome offsets (λ map. AreOffsetsIn (shown_with page.now.tree (seen_screen screen) scrolls.now) document.0 map.now) }
+        ensures { result ≡ record { shown = shown_with page.now.tree (seen_screen screen) scrolls.now; document = document.0 } }
     {
         ShownDocument {
             page,
@@ -137,7 +137,6 @@ impl<'a> ShownDocument<'a> {
         )
     }
 
-    // What was found of the document.
     pub(crate) fn view(&self) -> DocumentView
         ensures root { option_map number result.root ≡ (view_of self.now.shown.tree self.now.shown.screen self.now.document).root }
         ensures size { result.size ≡ as_size (pair_of (viewport_of self.now.shown self.now.document)) }
@@ -194,9 +193,8 @@ impl<'a> ShownDocument<'a> {
         self.screen
     }
 
-    // Its number.
-    pub(crate) fn document(&self) -> u32
-        ensures { result ≡ self.now.document }
+    pub(crate) fn document(&self) -> DocumentId
+        ensures { result.0 ≡ self.now.document }
     {
         self.document
     }
@@ -251,7 +249,6 @@ impl<'a> ShownDocument<'a> {
         has_box_below(self.page(), self.root(), node)
     }
 
-    // The box of an element of this document, none where it has none.
     pub(crate) fn box_of(&self, node: NodeId) -> Option<BoxOf>
         requires { (element_at self.now.shown.tree node.0).document ≡ self.now.document }
         ensures { result ≡ box_of self.now.shown node.0 }

@@ -8,7 +8,7 @@ ghost use Rattle.page_tree.specs.Items.{IsNatural};
 ghost use Rattle.page_boxes.specs.Fresh.{IsFreshAbove};
 ghost use Rattle.page_boxes.specs.Pages.{seen_screen, IsScreen};
 
-use element_tree::NodeId;
+use element_tree::{DocumentId, NodeId};
 use kept_layout::Kept;
 use page_boxes::{Screen, shown_root, viewport_of};
 use page_tree::PageTree;
@@ -24,11 +24,16 @@ pub(crate) struct DocumentView {
 }
 
 // Finds root element and size by a climb from frame to frame.
-pub(crate) fn view_in(page: &PageTree, boxes: &Kept, screen: Screen, document: u32) -> DocumentView
+pub(crate) fn view_in(
+    page: &PageTree,
+    boxes: &Kept,
+    screen: Screen,
+    document: DocumentId,
+) -> DocumentView
     requires screen { IsScreen screen }
-    requires above { IsFreshAbove page.now.tree (seen_screen screen) boxes.now document }
-    ensures root { option_map number result.root ≡ (view_of page.now.tree (seen_screen screen) document).root }
-    ensures size { result.size ≡ as_size (pair_of (viewport_of page.now.tree (seen_screen screen) document)) }
+    requires above { IsFreshAbove page.now.tree (seen_screen screen) boxes.now document.0 }
+    ensures root { option_map number result.root ≡ (view_of page.now.tree (seen_screen screen) document.0).root }
+    ensures size { result.size ≡ as_size (pair_of (viewport_of page.now.tree (seen_screen screen) document.0)) }
     ensures range { IsNatural result.size }
     ensures offset { result.offset ≡ None }
 {

@@ -3,7 +3,7 @@
 ghost use Rattle.std.specs.Prelude.{◌≡◌, ◌+◌, ◌<◌, ◌≤◌, ◌++◌, ◌∷◌, ◌||◌, [], ℕ, true, false, not, length, option_map, unsigned_abs, Some, None, IfOk, IfErr, OnOk, OnErr};
 ghost use Rattle.std.specs.Option.{ForSome};
 ghost use Rattle.style_values.specs.Ranges.{IsAllowed};
-ghost use Rattle.style_values.specs.Seen.{seen_declaration};
+ghost use Rattle.style_values.specs.Seen.{seen_axis, seen_declaration};
 ghost use Rattle.element_tree.specs.Links.{number};
 ghost use Rattle.page_model.specs.World.{Screen as WorldScreen};
 ghost use Rattle.page_model.specs.Outcome.{opening_world};
@@ -14,7 +14,7 @@ ghost use Rattle.page_model.specs.Commands.{placing, growing, loading};
 ghost use Rattle.block_layout.specs.Seen.{seen_kind};
 ghost use Rattle.page_tree.specs.Items.{IsKind, IsNatural};
 ghost use Rattle.page_tree.specs.Faults.{refusal, element_room, frame_room, IsMakeFault, IsFrameFault};
-ghost use Rattle.page_tree.specs.Steps.{seen_container, seen_axis, IsContainerIn};
+ghost use Rattle.page_tree.specs.Steps.{seen_container, IsContainerIn};
 ghost use Rattle.page_boxes.specs.Around.{rests_on, LeavesOthers};
 ghost use Rattle.page_boxes.specs.Fresh.{IsFresh, IsFreshIn, IsFreshAbove, IsFreshFor};
 ghost use Rattle.page_boxes.specs.Kept.{AreKept, FillsOnly, IsExact, is_due, due_count};
@@ -23,16 +23,16 @@ ghost use Rattle.page_layout.specs.Marks.{element_of, is_over, MarksOnly, MarksN
 
 use crate::marks::{element_of, mark, parent_of};
 use block_layout::ItemKind;
-use element_tree::NodeId;
+use element_tree::{DocumentId, NodeId};
 use kept_layout::Kept;
 use page_boxes::{Screen, refresh, refresh_for, refresh_in, undue_boxes_are_exact};
-use page_tree::{Axis, Container, MakeFault, PageTree, PlaceFault};
+use page_tree::{Container, MakeFault, PageTree, PlaceFault};
 use px_units::{Px, Size};
 use std::alloc::{AllocError, Global};
 use std::marker::Model;
 use std::sync::ledger::Ledger;
 use step_count::Steps;
-use style_values::Declaration;
+use style_values::{Axis, Declaration};
 use text_io::{LimitKind, Name, ThrowKind, Version};
 
 /// The elements and documents of a page with their boxes, which are kept. A contract sees them as a page's elements, and as what
@@ -121,12 +121,17 @@ impl LaidTree {
     ///
     /// `Limit` comes exactly where the page is full; else `Memory` where there is none, which isn't after
     /// `reserve`. Nothing is changed then but that room may have been made.
-    pub fn make(&mut self, document: u32, name: Name, kind: ItemKind) -> Result<NodeId, MakeFault>
+    pub fn make(
+        &mut self,
+        document: DocumentId,
+        name: Name,
+        kind: ItemKind,
+    ) -> Result<NodeId, MakeFault>
         requires { IsKind kind }
         ensures node { IfOk result (λ node. node.0 ≡ length self.old.elements.tree.elements) }
         ensures roomy { OnOk result (element_room self.old.elements ≡ Did tt) }
         ensures made { OnOk result (self.new.elements ≡ record self.old.elements {
-          tree = with_element (seen_kind kind) document None (self.old.elements.tree);
+          tree = with_element (seen_kind kind) document.0 None (self.old.elements.tree);
           names = self.old.elements.names ++ name ∷ [];
           ready = self.new.elements.ready;
         }) }
@@ -142,16 +147,20 @@ impl LaidTree {
     }
 
     /// Makes a frame with this name, in a document and standing nowhere, and the Fresh document in it, which has no root element
-    /// (HTML, 4.8.5 and 7.3), and gives both numbers. The frame has no style set.
+    /// (HTML, 4.8.5 and 7.3), and gives both names. The frame has no style set.
     ///
     /// `Limit(Nodes)` comes exactly where the page is full, then `Limit(Documents)` where 64 documents were made; else
     /// `Memory` where there is none, which isn't after `reserve`. Nothing is changed then but that room may have been made.
-    pub fn make_frame(&mut self, document: u32, name: Name) -> Result<(NodeId, u32), MakeFault>
+    pub fn make_frame(
+        &mut self,
+        document: DocumentId,
+        name: Name,
+    ) -> Result<(NodeId, DocumentId), MakeFault>
         ensures node { IfOk result (λ made. made.0.0 ≡ length self.old.elements.tree.elements) }
-        ensures document { IfOk result (λ made. made.1 ≡ length self.old.elements.tree.documents) }
+        ensures document { IfOk result (λ made. made.1.0 ≡ length self.old.elements.tree.documents) }
         ensures roomy { OnOk result (frame_room self.old.elements ≡ Did tt) }
         ensures made { OnOk result (self.new.elements ≡ record self.old.elements {
-          tree = with_frame document (self.old.elements.tree);
+          tree = with_frame document.0 (self.old.elements.tree);
           names = self.old.elements.names ++ name ∷ [];
           ready = self.new.elements.ready;
         }) }
@@ -292,10 +301,15 @@ impl LaidTree {
     /// Computes what is due of the boxes of a document and of the documents around it, with this screen of `top`: those of the document
     /// and of the one that its frame is in are then held as they are now, and boxes of other documents aren't touched. It takes at most
     /// one step for each box that was due, and no memory.
-    pub fn refresh_in<L: Ledger>(&mut self, screen: Screen, document: u32, steps: &mut Steps<L>)
-        ensures fresh { IsFreshIn self.new.elements.tree (seen_screen screen) self.new.kept document }
-        ensures above { IsFreshAbove self.new.elements.tree (seen_screen screen) self.new.kept document }
-        ensures left { LeavesOthers self.old.elements.tree (Some document) self.old.kept self.new.kept }
+    pub fn refresh_in<L: Ledger>(
+        &mut self,
+        screen: Screen,
+        document: DocumentId,
+        steps: &mut Steps<L>,
+    )
+        ensures fresh { IsFreshIn self.new.elements.tree (seen_screen screen) self.new.kept document.0 }
+        ensures above { IsFreshAbove self.new.elements.tree (seen_screen screen) self.new.kept document.0 }
+        ensures left { LeavesOthers self.old.elements.tree (Some document.0) self.old.kept self.new.kept }
         ensures same { self.new.elements ≡ self.old.elements }
         ensures fills { FillsOnly self.old.kept self.new.kept }
         ensures ticks { steps.new + due_count self.old.elements.tree (seen_screen screen) self.new.kept ≤ steps.old + due_count self.old.elements.tree (seen_screen screen) self.old.kept }

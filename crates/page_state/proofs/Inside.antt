@@ -20,8 +20,7 @@ use Rattle.page_tree.specs.declared.page.Container.{Container}
 use Rattle.page_tree.specs.declared.page.Container.TheVariants.{Element, Document}
 use Rattle.page_layout.specs.Views.{LaidElements}
 use Rattle.page_tree.specs.Views.{PageElements}
-use Rattle.clip_chain.specs.declared.spot.Spot.TheVariants.{View}
-use Rattle.clip_chain.specs.Worlds.{element_spot}
+use Rattle.clip_chain.specs.Worlds.{element_spot, view_spot}
 use Rattle.kept_clips.specs.Looked.{MayBeSeen}
 use Rattle.kept_findings.specs.Held.{HeldFindings, IsRoomier}
 use Rattle.kept_findings.specs.Rooms.{HaveRoom}
@@ -160,7 +159,7 @@ module _ (page : Inside) (is : IsPage page) (after : LaidElements) (names : Know
 
   pub framed_page : (n document : ℕ) (inside : List ℕ) → n ≡ elements → document ≡ documents
       → names.list ≡ (page.names.list ++ record { text = text; thing = ElementThing n } ∷ []) ++ record { text = inside; thing = DocumentThing document } ∷ []
-      → length after.elements.tree.documents ≡ documents + 1 → MayBeSeen findings.seen findings.clips (element_spot n) → MayBeSeen findings.seen findings.clips (View document)
+      → length after.elements.tree.documents ≡ documents + 1 → MayBeSeen findings.seen findings.clips (element_spot n) → MayBeSeen findings.seen findings.clips (view_spot document)
       → IsPage (record page { names = names; laid = after; findings = findings })
   framed_page n document inside number framed given more seen shown =
       let counts : Counts = record (counts_in page) { elements = elements + 1 } in
@@ -169,7 +168,7 @@ module _ (page : Inside) (is : IsPage page) (after : LaidElements) (names : Know
       more
       (known_more one inside (DocumentThing documents) counts (record counts { documents = documents + 1 }) (next_document counts) known_one)
       (names_more one after.elements counts (record { text = inside; thing = DocumentThing documents }) (sym count) known_one names_one)
-      (room_document (elements + 1) documents findings (subst (λ (d : ℕ). MayBeSeen findings.seen findings.clips (View d)) framed shown) (room_one n number seen))
+      (room_document (elements + 1) documents findings (subst (λ (d : ℕ). MayBeSeen findings.seen findings.clips (view_spot d)) framed shown) (room_one n number seen))
 
 one_longer : {A : Type 0} (xs : List A) (x : A) → length (xs ++ x ∷ []) ≡ length xs + 1
 one_longer [] x = refl

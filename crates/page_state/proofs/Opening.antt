@@ -4,7 +4,7 @@ use Rattle.text_io.specs.declared.kinds.Version.{Version}
 use Rattle.page_model.specs.World.{Thing, DocumentThing, ElementThing, ResizeObserverThing, IntersectionObserverThing, QueryListThing, Name}
 use Rattle.page_model.specs.Names.{is_same_thing}
 use Rattle.page_model.specs.Ranges.{Counts, IsThingIn}
-use Rattle.clip_chain.specs.declared.spot.Spot.TheVariants.{View}
+use Rattle.clip_chain.specs.Worlds.{view_spot}
 use Rattle.kept_clips.specs.Looked.{MayBeSeen}
 use Rattle.kept_findings.specs.Held.{HeldFindings}
 use Rattle.kept_findings.specs.Rooms.{HaveRoom}
@@ -47,7 +47,7 @@ no_elements names tree none count = record {
   each = λ n below. absurd (omega (arith, below, count));
 }
 
-pub room_first : (elements documents : ℕ) (it : HeldFindings) → elements ≡ 0 → documents ≡ 1 → MayBeSeen it.seen it.clips (View 0) → HaveRoom elements documents it
+pub room_first : (elements documents : ℕ) (it : HeldFindings) → elements ≡ 0 → documents ≡ 1 → MayBeSeen it.seen it.clips (view_spot 0) → HaveRoom elements documents it
 room_first elements documents it none one may =
     subst (λ (n : ℕ). HaveRoom n documents it) (sym none) (subst (λ (d : ℕ). HaveRoom 0 d it) (sym one) (room_document 0 0 it may (room_none it)))
 

@@ -132,7 +132,7 @@ module _ (handlers : Handlers) (world : World) (present : Present) where
 
 module _ (inside : Inside) (text : List ℕ) (query : List MediaQuery) (owner : ℕ) (names : List Name) (queries : List QueryList) (copy : List MediaQuery) (matched : Bool) (viewport : Extent)
     (given : names ≡ inside.names.list ++ record { text = text; thing = QueryListThing (length inside.queries.items) } ∷ [])
-    (made : queries ≡ inside.queries.items ++ record { document = owner; query = copy; matched = matched } ∷ [])
+    (made : queries ≡ inside.queries.items ++ record { document = record { 0 = owner }; query = copy; matched = matched } ∷ [])
     (copied : copy ≡ query) (is : matched ≡ matches_in copy viewport) (here : viewport ≡ viewport_of inside.laid.elements.tree (seen_screen inside.screen) owner) where
   name_given : names ≡ with_name text (QueryListThing (length (map seen_query_list inside.queries.items))) inside.names.list
   name_given = given ∙ ap (λ (n : ℕ). inside.names.list ++ record { text = text; thing = QueryListThing n } ∷ []) (sym (length-map inside.queries.items seen_query_list))
@@ -144,7 +144,7 @@ module _ (inside : Inside) (text : List ℕ) (query : List MediaQuery) (owner : 
   list_made : map seen_query_list queries ≡ with_query_list owner query (matches_now (world_of inside) owner query) (map seen_query_list inside.queries.items)
   list_made =
       ap (λ (lists : List QueryList). map seen_query_list lists) made
-      ∙ map_push seen_query_list inside.queries.items (record { document = owner; query = copy; matched = matched })
+      ∙ map_push seen_query_list inside.queries.items (record { document = record { 0 = owner }; query = copy; matched = matched })
       ∙ ap (λ (asked : List MediaQuery). with_query_list owner asked matched (map seen_query_list inside.queries.items)) copied
       ∙ ap (λ (first : Bool). with_query_list owner query first (map seen_query_list inside.queries.items)) matches_first
 

@@ -12,7 +12,7 @@ pub record KnownNames : Type 0 where
   pub room : ℕ
 
 abbrev pub seen_key : ThingKey → Thing
-seen_key (key.Document document) = DocumentThing document
+seen_key (key.Document document) = DocumentThing document.0
 seen_key (key.Element element) = ElementThing element
 seen_key (key.ResizeObserver observer) = ResizeObserverThing observer
 seen_key (key.IntersectionObserver observer) = IntersectionObserverThing observer

@@ -55,4 +55,4 @@ label_handler world (Watcher watcher) = (intersection_observer_at world.intersec
 -- an element or a document that there is
 abbrev pub IsIn : World → Container → Type 0
 IsIn world (Inside node) = node.0 < length world.tree.elements
-IsIn world (Top document) = document < length world.tree.documents
+IsIn world (Top document) = document.0 < length world.tree.documents

@@ -9,7 +9,7 @@ use Rattle.page_model.specs.QueryLists.{with_state}
 use Rattle.page_state.specs.declared.queries.QueryList.{QueryList}
 
 abbrev pub seen_query_list : QueryList → ModelQueryList
-seen_query_list it = record { document = it.document; query = it.query; matched = it.matched }
+seen_query_list it = record { document = it.document.0; query = it.query; matched = it.matched }
 
 -- whether a query list is one of a document and has another state in this viewport than at its last evaluation or creation
 abbrev pub is_changed : ℕ → Extent → ModelQueryList → Bool

@@ -14,7 +14,7 @@ use Rattle.page_state.specs.declared.names.Thing.{Thing}
 use Rattle.page_state.specs.declared.names.Thing.TheVariants.{Document, Element, ResizeObserver, IntersectionObserver, QueryList}
 
 abbrev pub seen_thing : Thing → ModelThing
-seen_thing (Document document) = DocumentThing document
+seen_thing (Document document) = DocumentThing document.0
 seen_thing (Element node) = ElementThing node.0
 seen_thing (ResizeObserver observer) = ResizeObserverThing observer.0
 seen_thing (IntersectionObserver watcher) = IntersectionObserverThing watcher.0
@@ -44,7 +44,7 @@ IsSubject count (Some node) = node.0 < count
 
 abbrev pub IsContainerBelow : Counts → Container → Type 0
 IsContainerBelow counts (Inside node) = node.0 < counts.elements
-IsContainerBelow counts (Top document) = document < counts.documents
+IsContainerBelow counts (Top document) = document.0 < counts.documents
 
 -- no frame is made
 abbrev pub IsMade : ItemKind → Type 0

@@ -52,7 +52,7 @@ pub record IsCounted (version : Version) (serials begun : ℕ) (flag : Bool) : T
 
 -- query lists and documents: each list is of a document that there is, and there are no more than a page may have
 pub record AreAsked (version : Version) (queries : List QueryList) (count : ℕ) : Type 0 where
-  pub documents : AllByRecursion (λ (it : QueryList). it.document < count) queries
+  pub documents : AllByRecursion (λ (it : QueryList). it.document.0 < count) queries
   pub few : length queries ≤ limit_number version limits.Queries
 
 pub record IsPage (page : Inside) : Type 0 where

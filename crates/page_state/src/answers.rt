@@ -22,13 +22,13 @@ pub enum Effect {
 #[derive(Clone, Copy, Debug, PartialEq, Eq, Error)]
 pub enum PageFault {
     /// An exception is thrown.
-    #[error("Throw")]
+    #[error("{} is thrown", .0.text())]
     Throw(ThrowKind),
     /// A limit is met.
-    #[error("Limit")]
+    #[error("the limit of {} is met", .0.text())]
     Limit(LimitKind),
     /// There is no memory.
-    #[error("Memory")]
+    #[error("out of memory")]
     Memory,
 }
 

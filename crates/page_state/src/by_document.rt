@@ -3,6 +3,7 @@
 ghost use Rattle.std.specs.Prelude.{◌≡◌, ◌<◌, IfOk, []};
 ghost use Rattle.page_model.specs.Lookups.{entry_or, put_at, change_at};
 
+use element_tree::DocumentId;
 use page_documents::MOST_DOCUMENTS;
 use std::alloc::{AllocError, Global};
 use std::marker::Model;
@@ -32,21 +33,21 @@ impl<T: Copy> ByDocument<T> {
     }
 
     // The entry of a document, the default where it has none.
-    pub(crate) fn get(&self, document: u32, default: T) -> T
-        ensures { result ≡ entry_or default self.now document }
+    pub(crate) fn get(&self, document: DocumentId, default: T) -> T
+        ensures { result ≡ entry_or default self.now document.0 }
     {
-        match self.entries.get(document as usize) {
+        match self.entries.get(document.0 as usize) {
             Some(entry) => *entry,
             None => default,
         }
     }
 
     // Sets the entry of a document. Documents before it that have none get the default.
-    pub(crate) fn set(&mut self, document: u32, value: T, default: T)
-        requires { document < 64 }
-        ensures { self.new ≡ put_at default document value self.old }
+    pub(crate) fn set(&mut self, document: DocumentId, value: T, default: T)
+        requires { document.0 < 64 }
+        ensures { self.new ≡ put_at default document.0 value self.old }
     {
-        let place = document as usize;
+        let place = document.0 as usize;
         if place < self.entries.len() {
             self.entries[place] = value;
             return;
@@ -58,10 +59,10 @@ impl<T: Copy> ByDocument<T> {
     }
 
     // Sets the entry of a document that has one.
-    pub(crate) fn reset(&mut self, document: u32, value: T)
-        ensures { self.new ≡ change_at (λ before. value) document self.old }
+    pub(crate) fn reset(&mut self, document: DocumentId, value: T)
+        ensures { self.new ≡ change_at (λ before. value) document.0 self.old }
     {
-        let place = document as usize;
+        let place = document.0 as usize;
         if place < self.entries.len() {
             self.entries[place] = value;
         }

@@ -16,6 +16,7 @@ ghost use Rattle.event_tables.specs.Timers as timers;
 ghost use Rattle.scrolling.specs.Seen.{seen_targets};
 
 use crate::page::Page;
+use element_tree::DocumentId;
 use event_tables::{Batch, Dispatch, EventTarget, HandlerId, Task};
 use scrolling::ScrollTarget;
 use std::alloc::AllocError;
@@ -43,8 +44,8 @@ impl Page {
     }
 
     /// Copies the frame callbacks of a document as it begins to run them (HTML, animation frames).
-    pub fn begin_frames(&self, document: u32) -> Result<Batch, AllocError>
-        ensures { IfOk result (λ batch. batch ≡ frame_callbacks_of document self.now.world.frame_callbacks) }
+    pub fn begin_frames(&self, document: DocumentId) -> Result<Batch, AllocError>
+        ensures { IfOk result (λ batch. batch ≡ frame_callbacks_of document.0 self.now.world.frame_callbacks) }
     {
         self.frame_callbacks.begin(document)
     }
@@ -75,8 +76,8 @@ impl Page {
 
     /// Takes out the first copied timer that still stands, and tells its document, key and handler; it and those before it
     /// leave the batch. None exactly where none of those that are left still stands.
-    pub fn next_timer(&mut self, batch: &mut Batch) -> Option<(u32, Name, HandlerId)>
-        ensures value { option_map {U = ℕ × List ℕ × ℕ} (λ called. (called.0, called.1, called.2.0)) result
+    pub fn next_timer(&mut self, batch: &mut Batch) -> Option<(DocumentId, Name, HandlerId)>
+        ensures value { option_map {U = ℕ × List ℕ × ℕ} (λ called. (called.0.0, called.1, called.2.0)) result
             ≡ option_map timers.told (find (copied_stands self.old.world.timers) batch.old) }
         ensures removed { self.new ≡ record self.old {
           world = record (self.old.world) {
@@ -102,9 +103,9 @@ impl Page {
 
     /// Hands out the list of what scrolled in a document since the last call, in order, and leaves it empty (CSSOM View,
     /// 13: run the scroll steps). No memory.
-    pub fn take_scrolled(&mut self, document: u32) -> Vec<ScrollTarget>
-        ensures value { seen_targets result.items ≡ pending_of document self.old.world.scrolls }
-        ensures taken { self.new ≡ record self.old { world = record (self.old.world) { scrolls = without_pending document (self.old.world.scrolls) } } }
+    pub fn take_scrolled(&mut self, document: DocumentId) -> Vec<ScrollTarget>
+        ensures value { seen_targets result.items ≡ pending_of document.0 self.old.world.scrolls }
+        ensures taken { self.new ≡ record self.old { world = record (self.old.world) { scrolls = without_pending document.0 (self.old.world.scrolls) } } }
         ensures ready { (handlers : ℕ) → IsReadyFor handlers self.old.world → IsReadyFor handlers self.new.world }
     {
         self.scrolls.take_pending(document)

@@ -3,7 +3,7 @@
 ghost use Rattle.std.specs.Prelude.{◌≡◌, ◌<◌, ℕ, List, Some, None, length, option_map, unsigned_abs};
 ghost use Rattle.std.specs.Option.{ForSome};
 ghost use Rattle.style_values.specs.Ranges.{IsAllowed};
-ghost use Rattle.style_values.specs.Seen.{seen_declaration};
+ghost use Rattle.style_values.specs.Seen.{seen_axis, seen_declaration};
 ghost use Rattle.script_model.specs.Syntax.{Viewport, SetRatio, MakeBlock, MakeImage, MakeFrame, Append, Before, Remove, SetStyle, Grow, Load};
 ghost use Rattle.block_layout.specs.declared.ItemKind.{ItemKind as KindOfItem};
 ghost use Rattle.block_layout.specs.Seen.{seen_kind};
@@ -14,9 +14,9 @@ ghost use Rattle.page_model.specs.Documents.{removed};
 ghost use Rattle.page_model.specs.Edits.{with_element, with_frame};
 ghost use Rattle.page_model.specs.World.{Tree};
 ghost use Rattle.page_model.specs.Operands.{Present, container_meant};
-ghost use Rattle.page_tree.specs.Steps.{seen_axis, seen_container};
+ghost use Rattle.page_tree.specs.Steps.{seen_container};
 ghost use Rattle.script_syntax.specs.Allowed.{IsSize, IsPercent};
-ghost use Rattle.script_syntax.specs.Seen.{operand_of, dimension_of};
+ghost use Rattle.script_syntax.specs.Seen.{operand_of};
 ghost use Rattle.element_tree.specs.Links.{number};
 ghost use Rattle.page_layout.specs.Marks.{element_of, is_over, MarksOnly, MarksNone};
 ghost use Rattle.kept_findings.specs.Held.{IsRoomier};
@@ -31,12 +31,12 @@ use crate::names::Thing;
 use crate::page::Page;
 use block_layout::ItemKind;
 use clip_chain::Spot;
-use element_tree::NodeId;
+use element_tree::{DocumentId, NodeId};
 use page_laws::{boxes_do_not_read_the_ratio, what_is_made_has_no_box};
 use page_tree::{Container, PlaceFault};
 use px_units::{Percent, Px, Size};
-use script_syntax::{Axis, Operand};
-use style_values::Declaration;
+use script_syntax::Operand;
+use style_values::{Axis, Declaration};
 use text_io::{LimitKind, Name};
 
 #[tactic(auto, unfolding(page_model::specs::Commands::does))]
@@ -141,7 +141,7 @@ impl Page {
             return Err(PageFault::Limit(LimitKind::Documents));
         }
         let node = self.laid.reserve()?;
-        let framed = self.laid.page().document_count();
+        let framed = DocumentId(self.laid.page().document_count());
         self.findings.add(Spot::Node(node))?;
         self.findings.add(Spot::View(framed))?;
         self.names.reserve(2)?;
@@ -255,12 +255,12 @@ impl Page {
         subject: Option<NodeId>,
     ) -> Result<Effect, PageFault>
         requires { IsSubject (length self.old.world.tree.elements) subject }
-        ensures done { Keeps self.old self.new result (λ handlers. does handlers self.old.world (present_of subject) (Grow (operand_of node) (dimension_of axis) by.0)) }
+        ensures done { Keeps self.old self.new result (λ handlers. does handlers self.old.world (present_of subject) (Grow (operand_of node) (seen_axis axis) by.0)) }
         ensures boxes { Marks (is_over self.new.world.tree (meant self.old.world (present_of subject) (operand_of node))) result self.old.kept self.new.kept }
         ensures findings { self.new.found ≡ self.old.found }
     {
         let node = self.element(node, subject)?;
-        self.laid.grow(node, side(axis), by)?;
+        self.laid.grow(node, axis, by)?;
         Ok(Effect::Nothing)
     }
 
@@ -279,16 +279,6 @@ impl Page {
         let node = self.element(node, subject)?;
         self.laid.load(node, size)?;
         Ok(Effect::Nothing)
-    }
-}
-
-// The same property for the tree.
-fn side(axis: Axis) -> page_tree::Axis
-    ensures { seen_axis result ≡ dimension_of axis }
-{
-    match axis {
-        Axis::Width => page_tree::Axis::Width,
-        Axis::Height => page_tree::Axis::Height,
     }
 }
 

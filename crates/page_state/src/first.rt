@@ -5,7 +5,7 @@ ghost use Rattle.text_io.specs.Limits.{limit_number};
 ghost use Rattle.text_io.specs.declared.kinds.LimitKind.TheVariants as limits;
 ghost use Rattle.script_model.specs.Margins.{Margins as ScrollMargins};
 ghost use Rattle.page_model.specs.World.{DocumentThing, IntersectionObservers};
-ghost use Rattle.clip_chain.specs.declared.spot.Spot.TheVariants.{View};
+ghost use Rattle.clip_chain.specs.Worlds.{view_spot};
 ghost use Rattle.intersection_observer.specs.Places.{standing_of};
 ghost use Rattle.kept_clips.specs.Looked.{MayBeSeen};
 ghost use Rattle.kept_findings.specs.Held.{no_findings, IsRoomier};
@@ -15,6 +15,7 @@ use crate::by_document::ByDocument;
 use crate::names::{Names, Thing};
 use crate::page::most;
 use clip_chain::Spot;
+use element_tree::DocumentId;
 use event_tables::{FrameCallbacks, Listeners, Tasks, Timers};
 use intersection_observer::Watchers;
 use kept_findings::KeptFindings;
@@ -31,18 +32,18 @@ fn names(alloc: Global) -> Result<Names, AllocError>
         return Err(AllocError);
     };
     let mut names = Names::new(alloc);
-    names.insert(top, Thing::Document(0))?;
+    names.insert(top, Thing::Document(DocumentId(0)))?;
     Ok(names)
 }
 
 // What is kept of registrations: nothing but the room for what is seen of `top`.
 fn findings(alloc: Global) -> Result<KeptFindings, AllocError>
     ensures roomier { IfOk result (λ it. IsRoomier no_findings it) }
-    ensures room { IfOk result (λ it. MayBeSeen it.seen it.clips (View 0)) }
+    ensures room { IfOk result (λ it. MayBeSeen it.seen it.clips (view_spot 0)) }
     ensures registered { (watchers : IntersectionObservers) (margins : List ScrollMargins) → ((serial : ℕ) → standing_of serial watchers ≡ None) → IfOk result (AreRegistered watchers margins) }
 {
     let mut findings = KeptFindings::new(alloc);
-    findings.add(Spot::View(0))?;
+    findings.add(Spot::View(DocumentId(0)))?;
     Ok(findings)
 }
 
@@ -61,7 +62,7 @@ pub(crate) fn parts(
 >
     ensures names { IfOk result (λ parts. parts.0.list ≡ record { text = codes "top"; thing = DocumentThing 0 } ∷ []) }
     ensures roomier { IfOk result (λ parts. IsRoomier no_findings parts.1) }
-    ensures room { IfOk result (λ parts. MayBeSeen parts.1.seen parts.1.clips (View 0)) }
+    ensures room { IfOk result (λ parts. MayBeSeen parts.1.seen parts.1.clips (view_spot 0)) }
     ensures registered { (watchers : IntersectionObservers) (margins : List ScrollMargins) → ((serial : ℕ) → standing_of serial watchers ≡ None) → IfOk result (λ parts. AreRegistered watchers margins parts.1) }
     ensures notifying { IfOk result (λ parts. parts.2 ≡ []) }
     ensures noted { IfOk result (λ parts. parts.3 ≡ []) }

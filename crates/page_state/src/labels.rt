@@ -4,6 +4,7 @@ ghost use Rattle.std.specs.Prelude.{◌≡◌, option_map};
 ghost use Rattle.page_state.specs.Labels.{label_text, label_document, label_handler, IsLabelIn, IsCallerIn};
 
 use crate::page::Page;
+use element_tree::DocumentId;
 use event_tables::{EventTarget, HandlerId};
 use intersection_observer::WatcherId;
 use resize_observer::ObserverId;
@@ -39,9 +40,9 @@ impl Page {
 
     /// The document that decides whether the callbacks of a thing are called, and an observer's handler if it has one; what
     /// events are fired at has none of its own. `top` for a query list that isn't there.
-    pub fn callback_of(&self, of: Label) -> (u32, Option<HandlerId>)
+    pub fn callback_of(&self, of: Label) -> (DocumentId, Option<HandlerId>)
         requires { IsCallerIn self.now.world of }
-        ensures document { result.0 ≡ label_document self.now.world of }
+        ensures document { result.0.0 ≡ label_document self.now.world of }
         ensures handler { option_map (λ handler. handler.0) result.1 ≡ label_handler self.now.world of }
     {
         match of {
@@ -51,7 +52,7 @@ impl Page {
             }
             Label::Target(EventTarget::Query(query)) => match self.queries.get(query as usize) {
                 Some(list) => (list.document, None),
-                None => (0, None),
+                None => (DocumentId(0), None),
             },
             Label::Observer(observer) => {
                 let handler = self.observers.handler(observer);

@@ -1,6 +1,7 @@
 //! Operands looked up on a page: what is found is there.
 
 ghost use Rattle.std.specs.Prelude.{◌≡◌, ◌<◌, length, option_map, IfOk};
+ghost use Rattle.element_tree.specs.Documents.{document_number};
 ghost use Rattle.element_tree.specs.Links.{number};
 ghost use Rattle.page_model.specs.Operands.{document_named, element_meant, container_meant, resize_observer_named, intersection_observer_named, query_list_named, root_meant, event_target_meant, handler_named, handler_given};
 ghost use Rattle.page_model.specs.Callbacks.{handler_names};
@@ -17,7 +18,7 @@ ghost use Rattle.page_state.specs.Answers.{Finds};
 ghost use Rattle.page_state.specs.Things.{present_of, IsSubject};
 
 use crate::page::Page;
-use element_tree::NodeId;
+use element_tree::{DocumentId, NodeId};
 use event_tables::{EventTarget, HandlerId};
 use intersection_observer::{Root, WatcherId};
 use page_tree::Container;
@@ -26,9 +27,9 @@ use script_syntax::{Aim, Operand, Script};
 use text_io::{Name, ThrowKind};
 
 impl Page {
-    pub(crate) fn document(&self, name: Name) -> Result<u32, ThrowKind>
-        ensures answer { Finds (λ document. document) result (document_named self.now.world.names name) }
-        ensures there { IfOk result (λ document. document < length self.now.world.tree.documents) }
+    pub(crate) fn document(&self, name: Name) -> Result<DocumentId, ThrowKind>
+        ensures answer { Finds document_number result (document_named self.now.world.names name) }
+        ensures there { IfOk result (λ document. document.0 < length self.now.world.tree.documents) }
     {
         self.names.document(name)
     }

@@ -3,6 +3,7 @@
 ghost use Rattle.std.specs.Prelude.{List, ◌≡◌, ◌+◌, ◌<◌, ◌≤◌, ◌++◌, bytes_eq, false, ◌∷◌, [], find, option_map, None, IfOk, OnOk, OnErr, IsOk};
 ghost use Rattle.std.specs.List.{AllByRecursion};
 ghost use Rattle.indexmap.specs.IndexMap.{spare};
+ghost use Rattle.element_tree.specs.Documents.{document_number};
 ghost use Rattle.element_tree.specs.Links.{number};
 ghost use Rattle.page_model.specs.World.{Name as ModelName};
 ghost use Rattle.page_model.specs.Names.{named_thing, is_same_thing};
@@ -15,7 +16,7 @@ ghost use Rattle.page_state.specs.Answers.{Finds};
 ghost use Rattle.page_state.specs.Known.{seen_key, AreFirst};
 ghost use Rattle.page_state.specs.Things.{seen_thing, present_of, AreIn, IsSubject, IsContainerBelow};
 
-use element_tree::NodeId;
+use element_tree::{DocumentId, NodeId};
 use event_tables::EventTarget;
 use indexmap::IndexMap;
 use intersection_observer::WatcherId;
@@ -29,7 +30,7 @@ use text_io::{Name, ThrowKind};
 /// What a name stands for.
 #[derive(Clone, Copy, Debug, PartialEq, Eq)]
 pub(crate) enum Thing {
-    Document(u32),
+    Document(DocumentId),
     Element(NodeId),
     ResizeObserver(ObserverId),
     IntersectionObserver(WatcherId),
@@ -39,7 +40,7 @@ pub(crate) enum Thing {
 /// A thing as a key.
 #[derive(Clone, Copy, PartialEq, Eq, Hash)]
 pub(crate) enum ThingKey {
-    Document(u32),
+    Document(DocumentId),
     Element(u32),
     ResizeObserver(u32),
     IntersectionObserver(u32),
@@ -169,9 +170,9 @@ impl Names {
         }
     }
 
-    pub(crate) fn document(&self, name: Name) -> Result<u32, ThrowKind>
-        ensures answer { Finds (λ document. document) result (document_named self.now.list name) }
-        ensures held { (counts : Counts) → AreIn counts self.now.list → IfOk result (λ document. document < counts.documents) }
+    pub(crate) fn document(&self, name: Name) -> Result<DocumentId, ThrowKind>
+        ensures answer { Finds document_number result (document_named self.now.list name) }
+        ensures held { (counts : Counts) → AreIn counts self.now.list → IfOk result (λ document. document.0 < counts.documents) }
     {
         match self.thing_named(name) {
             Ok(thing) => as_document(thing),
@@ -284,9 +285,9 @@ fn keep_first(firsts: &mut IndexMap<ThingKey, Name>, key: ThingKey, name: Name)
     }
 }
 
-fn as_document(thing: Thing) -> Result<u32, ThrowKind>
-    ensures answer { Finds (λ document. document) result (as_document (seen_thing thing)) }
-    ensures held { (counts : Counts) → IsThingIn counts (seen_thing thing) → IfOk result (λ document. document < counts.documents) }
+fn as_document(thing: Thing) -> Result<DocumentId, ThrowKind>
+    ensures answer { Finds document_number result (as_document (seen_thing thing)) }
+    ensures held { (counts : Counts) → IsThingIn counts (seen_thing thing) → IfOk result (λ document. document.0 < counts.documents) }
 {
     match thing {
         Thing::Document(document) => Ok(document),

@@ -3,6 +3,7 @@
 ghost use Rattle.std.specs.Prelude.{◌≡◌, ◌<◌, ◌≤◌, ◌+◌, ℕ, [], true, false, length, unsigned_abs, IfOk, OnOk, OnErr};
 ghost use Rattle.text_io.specs.Limits.{limit_number};
 ghost use Rattle.script_model.specs.Scripts.{handlers_in};
+ghost use Rattle.style_values.specs.Ranges.{IsHundredths};
 ghost use Rattle.page_model.specs.Names.{document_text, resize_observer_text, intersection_observer_text, query_list_text};
 ghost use Rattle.page_model.specs.Callbacks.{handler_names};
 ghost use Rattle.page_model.specs.Commands.{begun_in, does};
@@ -32,7 +33,7 @@ use crate::by_document::ByDocument;
 use crate::first;
 use crate::names::{Names, Thing};
 use crate::queries::QueryList;
-use element_tree::NodeId;
+use element_tree::{DocumentId, NodeId};
 use event_tables::{FrameCallbacks, Listeners, Tasks, Timers};
 use intersection_observer::{WatcherId, Watchers};
 use kept_findings::KeptFindings;
@@ -327,7 +328,8 @@ impl Page {
 
     /// How many device pixels a CSS pixel of the screen is, in hundredths of a percent (CSSOM View, 4: `devicePixelRatio`). No memory.
     pub fn ratio(&self) -> Percent
-        ensures { unsigned_abs result.0 ≡ self.now.world.viewports.screen.ratio }
+        ensures value { unsigned_abs result.0 ≡ self.now.world.viewports.screen.ratio }
+        ensures range { IsHundredths result.0 }
     {
         self.screen.ratio
     }
@@ -379,9 +381,9 @@ impl Page {
         shown_now(&self.laid, &self.scrolls, self.screen)
     }
 
-    pub(crate) fn document_name(&self, document: u32) -> Name
-        requires { document < length self.now.world.tree.documents }
-        ensures { result ≡ document_text self.now.world.names document }
+    pub(crate) fn document_name(&self, document: DocumentId) -> Name
+        requires { document.0 < length self.now.world.tree.documents }
+        ensures { result ≡ document_text self.now.world.names document.0 }
     {
         self.names.name_of(Thing::Document(document)).unwrap()
     }
@@ -422,14 +424,14 @@ pub(crate) fn most(kind: LimitKind, version: Version) -> u32
 pub(crate) fn viewport_now<L: Ledger>(
     laid: &mut LaidTree,
     screen: Screen,
-    document: u32,
+    document: DocumentId,
     steps: &mut Steps<L>,
 ) -> Size
     requires { IsScreen screen }
-    ensures value { seen_size result ≡ viewport_of laid.new.elements.tree (seen_screen screen) document }
+    ensures value { seen_size result ≡ viewport_of laid.new.elements.tree (seen_screen screen) document.0 }
     ensures natural { IsNatural result }
     ensures same { laid.new.elements ≡ laid.old.elements }
-    ensures others { LeavesOthers laid.old.elements.tree (rests_on laid.old.elements.tree (InDocument document)) laid.old.kept laid.new.kept }
+    ensures others { LeavesOthers laid.old.elements.tree (rests_on laid.old.elements.tree (InDocument document.0)) laid.old.kept laid.new.kept }
     ensures fills { FillsOnly laid.old.kept laid.new.kept }
     ensures ticks { steps.new + due_count laid.old.elements.tree (seen_screen screen) laid.new.kept ≤ steps.old + due_count laid.old.elements.tree (seen_screen screen) laid.old.kept }
 {
@@ -451,12 +453,12 @@ pub(crate) fn shown_in<'a>(
     laid: &'a LaidTree,
     scrolls: &'a Scrolls,
     screen: Screen,
-    document: u32,
+    document: DocumentId,
 ) -> ShownDocument<'a>
     requires screen { IsScreen screen }
-    requires fresh { IsFreshIn laid.now.elements.tree (seen_screen screen) laid.now.kept document }
-    requires above { IsFreshAbove laid.now.elements.tree (seen_screen screen) laid.now.kept document }
-    ensures { result ≡ record { shown = shown_with laid.now.elements.tree (seen_screen screen) scrolls.now; document = document } }
+    requires fresh { IsFreshIn laid.now.elements.tree (seen_screen screen) laid.now.kept document.0 }
+    requires above { IsFreshAbove laid.now.elements.tree (seen_screen screen) laid.now.kept document.0 }
+    ensures { result ≡ record { shown = shown_with laid.now.elements.tree (seen_screen screen) scrolls.now; document = document.0 } }
 {
     ShownDocument::new(laid.page(), laid.boxes(), scrolls, screen, document)
 }

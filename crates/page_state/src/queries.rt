@@ -16,6 +16,7 @@ ghost use Rattle.page_state.specs.Queries.{seen_query_list, is_changed, changed_
 use crate::answers::{Effect, PageFault};
 use crate::names::Thing;
 use crate::page::{Page, most, viewport_now};
+use element_tree::DocumentId;
 use media_queries::Query;
 use px_units::Size;
 use std::sync::ledger::Ledger;
@@ -25,7 +26,7 @@ use text_io::{LimitKind, Name};
 /// A media query list, with its state at the last evaluation, or at creation.
 #[derive(Drop)]
 pub(crate) struct QueryList {
-    pub(crate) document: u32,
+    pub(crate) document: DocumentId,
     pub(crate) query: Query,
     pub(crate) matched: bool,
 }
@@ -42,18 +43,23 @@ pub struct Change {
 
 impl QueryList {
     // Whether it is one of a document and has another state in a viewport of this size than at its last evaluation.
-    fn is_changed(&self, document: u32, viewport: Size) -> bool
-        ensures { result ≡ is_changed document (seen_size viewport) (seen_query_list self.now) }
+    fn is_changed(&self, document: DocumentId, viewport: Size) -> bool
+        ensures { result ≡ is_changed document.0 (seen_size viewport) (seen_query_list self.now) }
     {
-        self.document == document && self.query.matches(viewport) != self.matched
+        self.document.0 == document.0 && self.query.matches(viewport) != self.matched
     }
 }
 
 // The number of the first such query list from a place on.
-fn changed_from(queries: &[QueryList], document: u32, viewport: Size, place: usize) -> Option<usize>
-    ensures value { result ≡ changed_from document place (seen_size viewport) (map seen_query_list queries.now) }
+fn changed_from(
+    queries: &[QueryList],
+    document: DocumentId,
+    viewport: Size,
+    place: usize,
+) -> Option<usize>
+    ensures value { result ≡ changed_from document.0 place (seen_size viewport) (map seen_query_list queries.now) }
     ensures there { IfSome result (λ number. number < length queries.now) }
-    ensures changed { IfSome result (λ number. is_changed document (seen_size viewport) (query_list_at (map seen_query_list queries.now) number) ≡ true) }
+    ensures changed { IfSome result (λ number. is_changed document.0 (seen_size viewport) (query_list_at (map seen_query_list queries.now) number) ≡ true) }
 {
     if place >= queries.len() {
         return None;
@@ -118,16 +124,16 @@ impl Page {
     /// evaluate media queries and report changes). None exactly where there is none. No memory.
     pub fn next_change<L: Ledger>(
         &mut self,
-        document: u32,
+        document: DocumentId,
         place: usize,
         steps: &mut Steps<L>,
     ) -> Option<Change>
-        requires { document < length self.old.world.tree.documents }
-        ensures query { option_map (λ change. change.query) result ≡ next_changed document place self.old.world }
-        ensures matches { IfSome result (λ change. change.matches ≡ matches_now self.old.world document (query_list_at self.old.world.queries change.query).query) }
+        requires { document.0 < length self.old.world.tree.documents }
+        ensures query { option_map (λ change. change.query) result ≡ next_changed document.0 place self.old.world }
+        ensures matches { IfSome result (λ change. change.matches ≡ matches_now self.old.world document.0 (query_list_at self.old.world.queries change.query).query) }
         ensures place { IfSome result (λ change. (change.place ≡ ℕ.suc change.query) × change.query < length self.old.world.queries) }
-        ensures evaluated { self.new ≡ record self.old { world = once_evaluated document (next_changed document place self.old.world) (self.old.world); kept = self.new.kept } }
-        ensures boxes { ComputesIn self.old.world (rests_on self.old.world.tree (InDocument document)) self.old.kept self.new.kept steps.old steps.new }
+        ensures evaluated { self.new ≡ record self.old { world = once_evaluated document.0 (next_changed document.0 place self.old.world) (self.old.world); kept = self.new.kept } }
+        ensures boxes { ComputesIn self.old.world (rests_on self.old.world.tree (InDocument document.0)) self.old.kept self.new.kept steps.old steps.new }
         ensures ready { (handlers : ℕ) → IsReadyFor handlers self.old.world → IsReadyFor handlers self.new.world }
     {
         let size = viewport_now(&mut self.laid, self.screen, document, steps);

@@ -13,6 +13,7 @@ ghost use Rattle.page_state.specs.Rounds.{next_turn, once_reported};
 
 use crate::page::{Page, shown_now};
 use depth_gather::Delivery;
+use element_tree::DocumentId;
 use resize_observer::ObserverId;
 use std::alloc::AllocError;
 use std::sync::ledger::Ledger;
@@ -21,10 +22,15 @@ use step_count::Steps;
 impl Page {
     /// Gathers the active observations of a document at a depth (Resize Observer, 3.4: gather active observations at
     /// depth), and answers how many there are. No memory.
-    pub fn gather<L: Ledger>(&mut self, document: u32, depth: u32, steps: &mut Steps<L>) -> u32
-        ensures gathered { self.new ≡ record self.old { world = gather document depth (self.old.world); kept = self.new.kept } }
+    pub fn gather<L: Ledger>(
+        &mut self,
+        document: DocumentId,
+        depth: u32,
+        steps: &mut Steps<L>,
+    ) -> u32
+        ensures gathered { self.new ≡ record self.old { world = gather document.0 depth (self.old.world); kept = self.new.kept } }
         ensures boxes { Computes self.old.world self.old.kept self.new.kept steps.old steps.new }
-        ensures number { result ≡ active_count document self.new.world.resize_observers }
+        ensures number { result ≡ active_count document.0 self.new.world.resize_observers }
         ensures ready { (handlers : ℕ) → IsReadyFor handlers self.old.world → IsReadyFor handlers self.new.world }
     {
         self.laid.refresh(self.screen, steps);
@@ -40,13 +46,13 @@ impl Page {
     /// Want of memory; the world is then as it was.
     pub fn next_delivery<L: Ledger>(
         &mut self,
-        document: u32,
+        document: DocumentId,
         place: usize,
         steps: &mut Steps<L>,
     ) -> Result<Option<Delivery>, AllocError>
-        ensures turn { IfOk result (λ next. option_map turn_of next ≡ next_turn document place self.old.world) }
+        ensures turn { IfOk result (λ next. option_map turn_of next ≡ next_turn document.0 place self.old.world) }
         ensures entries { IfOk result (λ next. IfSome next (λ it. it.entries ≡ entries_in (sight_of self.old.world) (active_at self.old.world.resize_observers it.observer.0))) }
-        ensures reported { IfOk result (λ next. self.new ≡ record self.old { world = once_reported (next_turn document place self.old.world) (self.old.world); kept = self.new.kept }) }
+        ensures reported { IfOk result (λ next. self.new ≡ record self.old { world = once_reported (next_turn document.0 place self.old.world) (self.old.world); kept = self.new.kept }) }
         ensures boxes { Computes self.old.world self.old.kept self.new.kept steps.old steps.new }
         ensures made { IfOk result (λ next. IfSome next (λ it. it.observer.0 < length self.old.world.resize_observers.made)) }
         ensures some { IfOk result (λ next. IfSome next (λ it. 0 < length it.entries)) }
@@ -70,8 +76,8 @@ impl Page {
     }
 
     /// Whether something was skipped as a document's observations were last gathered. No memory.
-    pub fn has_skipped(&self, document: u32) -> bool
-        ensures { result ≡ has_skipped document self.now.world.resize_observers }
+    pub fn has_skipped(&self, document: DocumentId) -> bool
+        ensures { result ≡ has_skipped document.0 self.now.world.resize_observers }
     {
         depth_gather::has_skipped(&self.observers, document)
     }

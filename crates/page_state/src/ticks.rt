@@ -1,6 +1,7 @@
 //! What a tick asks of a page besides the resize loop and the event tables (HTML, update the rendering).
 
 ghost use Rattle.std.specs.Prelude.{◌≡◌, ◌<◌, ℕ, All, length, IfOk, OnOk, OnErr};
+ghost use Rattle.element_tree.specs.Documents.{document_numbers};
 ghost use Rattle.page_model.specs.Documents.{InDocument, active_documents, is_active};
 ghost use Rattle.page_model.specs.Intersections.{update_intersections, watchers};
 ghost use Rattle.page_model.specs.IntersectionObserving.{without_queue};
@@ -20,6 +21,7 @@ ghost use Rattle.page_state.specs.Boxes.{ComputesIn};
 ghost use Rattle.page_state.specs.Findings.{Updates, AreUpdated, IsUnfinished, TakesAtMost};
 
 use crate::page::{Page, shown_at_once, viewport_now};
+use element_tree::DocumentId;
 use event_tables::Task;
 use intersection_observer::{EntryList, WatcherId};
 use intersection_update::{update, watchers_of};
@@ -29,29 +31,33 @@ use step_count::Steps;
 
 impl Page {
     /// Whether a document is Active (HTML, 7.3). Not where there is no such document.
-    pub fn is_active(&self, document: u32) -> bool
-        ensures { result ≡ is_active self.now.world.tree document }
+    pub fn is_active(&self, document: DocumentId) -> bool
+        ensures { result ≡ is_active self.now.world.tree document.0 }
     {
         self.laid.page().is_active(document)
     }
 
     /// The Active documents, by preorder of the frame tree. The error is want of memory.
-    pub fn active_documents(&self) -> Result<Vec<u32>, AllocError>
-        ensures { IfOk result (λ documents. documents.items ≡ active_documents self.now.world.tree) }
+    pub fn active_documents(&self) -> Result<Vec<DocumentId>, AllocError>
+        ensures { IfOk result (λ documents. document_numbers documents.items ≡ active_documents self.now.world.tree) }
     {
         self.laid.page().active_documents()
     }
 
     /// Whether the size of a document's viewport isn't the one noted at the last call for this document; the size is then
     /// noted (CSSOM View, 13: run the resize steps). The first call only notes it. No memory.
-    pub fn viewport_changed<L: Ledger>(&mut self, document: u32, steps: &mut Steps<L>) -> bool
-        requires { document < length self.old.world.tree.documents }
-        ensures value { result ≡ differs_from (viewport_of self.old.world.tree self.old.world.viewports.screen document) (noted_size document self.old.world.viewports) }
+    pub fn viewport_changed<L: Ledger>(
+        &mut self,
+        document: DocumentId,
+        steps: &mut Steps<L>,
+    ) -> bool
+        requires { document.0 < length self.old.world.tree.documents }
+        ensures value { result ≡ differs_from (viewport_of self.old.world.tree self.old.world.viewports.screen document.0) (noted_size document.0 self.old.world.viewports) }
         ensures noted { self.new.world ≡ record (self.old.world) {
-          viewports = with_noted document (viewport_of (self.old.world.tree) (self.old.world.viewports.screen) document) (self.old.world.viewports);
+          viewports = with_noted document.0 (viewport_of (self.old.world.tree) (self.old.world.viewports.screen) document.0) (self.old.world.viewports);
         } }
         ensures begun { self.new.begun ≡ self.old.begun }
-        ensures boxes { ComputesIn self.old.world (rests_on self.old.world.tree (InDocument document)) self.old.kept self.new.kept steps.old steps.new }
+        ensures boxes { ComputesIn self.old.world (rests_on self.old.world.tree (InDocument document.0)) self.old.kept self.new.kept steps.old steps.new }
         ensures findings { self.new.found ≡ self.old.found }
         ensures ready { (handlers : ℕ) → IsReadyFor handlers self.old.world → IsReadyFor handlers self.new.world }
     {
@@ -75,20 +81,20 @@ impl Page {
     /// are as they were; where only the notify task is refused, all are settled.
     pub fn update_intersections<L: Ledger>(
         &mut self,
-        document: u32,
+        document: DocumentId,
         steps: &mut Steps<L>,
     ) -> Result<(), AllocError>
-        requires { document < length self.old.world.tree.documents }
-        ensures updated { IfOk result (λ _. self.new ≡ record self.old { world = update_intersections document (self.old.world); kept = self.new.kept; found = self.new.found }) }
+        requires { document.0 < length self.old.world.tree.documents }
+        ensures updated { IfOk result (λ _. self.new ≡ record self.old { world = update_intersections document.0 (self.old.world); kept = self.new.kept; found = self.new.found }) }
         ensures rest { OnErr result (self.new ≡ record self.old { world = record (self.old.world) { intersection_observers = self.new.world.intersection_observers }; kept = self.new.kept; found = self.new.found }) }
-        ensures stopped { OnErr result (IsStopped (shown_of self.old.world) self.old.world.scroll_margins self.old.world.tree document self.old.world.clock self.old.world.intersection_observers self.new.world.intersection_observers) }
+        ensures stopped { OnErr result (IsStopped (shown_of self.old.world) self.old.world.scroll_margins self.old.world.tree document.0 self.old.world.clock self.old.world.intersection_observers self.new.world.intersection_observers) }
         ensures boxes { FillsOnly self.old.kept self.new.kept }
-        ensures settled { OnOk result (AreSettled (shown_of self.old.world) self.old.world.scroll_margins document self.old.world.intersection_observers self.new.world.intersection_observers) }
-        ensures findings { Updates (shown_of self.old.world) self.old.world.scroll_margins document self.old.world.intersection_observers self.old.found self.new.found }
-        ensures fresh { OnOk result (AreUpdated (shown_of self.old.world) self.old.world.scroll_margins document self.new.world.intersection_observers self.new.found) }
+        ensures settled { OnOk result (AreSettled (shown_of self.old.world) self.old.world.scroll_margins document.0 self.old.world.intersection_observers self.new.world.intersection_observers) }
+        ensures findings { Updates (shown_of self.old.world) self.old.world.scroll_margins document.0 self.old.world.intersection_observers self.old.found self.new.found }
+        ensures fresh { OnOk result (AreUpdated (shown_of self.old.world) self.old.world.scroll_margins document.0 self.new.world.intersection_observers self.new.found) }
         ensures refused { (chained : HaveChains (shown_of self.old.world)) →
-            OnErr result (IsUnfinished (shown_of self.old.world) self.old.world.scroll_margins chained document self.old.world.clock self.old.world.intersection_observers self.new.world.intersection_observers self.old.found self.new.found) }
-        ensures ticks { (chained : HaveChains (shown_of self.old.world)) → OnOk result (TakesAtMost document self.old self.new chained steps.old steps.new) }
+            OnErr result (IsUnfinished (shown_of self.old.world) self.old.world.scroll_margins chained document.0 self.old.world.clock self.old.world.intersection_observers self.new.world.intersection_observers self.old.found self.new.found) }
+        ensures ticks { (chained : HaveChains (shown_of self.old.world)) → OnOk result (TakesAtMost document.0 self.old self.new chained steps.old steps.new) }
         ensures ready { (handlers : ℕ) → IsReadyFor handlers self.old.world → IsReadyFor handlers self.new.world }
     {
         self.laid.refresh(self.screen, steps);
@@ -127,12 +133,12 @@ impl Page {
     ///
     /// # Errors
     /// Want of memory; nothing is changed then.
-    pub fn notify_list(&mut self, document: u32) -> Result<Vec<WatcherId>, AllocError>
-        ensures list { IfOk result (λ list. watcher_numbers list.items ≡ watchers self.old.world.tree document self.old.world.intersection_observers) }
+    pub fn notify_list(&mut self, document: DocumentId) -> Result<Vec<WatcherId>, AllocError>
+        ensures list { IfOk result (λ list. watcher_numbers list.items ≡ watchers self.old.world.tree document.0 self.old.world.intersection_observers) }
         ensures made { IfOk result (λ list. All (λ watcher. watcher.0 < length self.old.world.intersection_observers.made) list.items) }
-        ensures cleared { OnOk result (self.new ≡ record self.old { world = record (self.old.world) { notifying = without_notifying document (self.old.world.notifying) } }) }
+        ensures cleared { OnOk result (self.new ≡ record self.old { world = record (self.old.world) { notifying = without_notifying document.0 (self.old.world.notifying) } }) }
         ensures same { OnErr result (self.new ≡ self.old) }
-        ensures ready { (handlers : ℕ) → IsReadyFor handlers (with_first (Notify document) self.old.world) → IsReadyFor handlers self.new.world }
+        ensures ready { (handlers : ℕ) → IsReadyFor handlers (with_first (Notify document.0) self.old.world) → IsReadyFor handlers self.new.world }
     {
         let alloc = *self.queries.allocator();
         let list = watchers_of(alloc, self.laid.page(), &self.watchers, document)?;

@@ -1,6 +1,7 @@
 -- Places of pages, and what is added behind a list.
-use Rattle.std.proofs.Common.{◌≡◌, refl, ap, ℕ, suc, ◌+◌, ◌<◌, ◌≤◌, Bool, true, false, cond, not, ◌||◌, List, [], ◌∷◌, ◌++◌, length, arith}
-use Rattle.std.specs.List.{AllByRecursion, list_any, position_or_len}
+use Rattle.std.proofs.Common.{◌≡◌, refl, ap, ℕ, suc, ◌+◌, ◌<◌, ◌≤◌, nat_lt, Bool, true, false, cond, not, ◌||◌, List, [], ◌∷◌, ◌++◌, length, Option, Some, None, unwrap_or, arith}
+use Rattle.std.proofs.lemmas.Bool.Decides.{nat_tests}
+use Rattle.std.specs.List.{AllByRecursion, list_any, position, position_or_len}
 
 any-at : (test rest : Bool) (n len : ℕ) → (n < len → rest ≡ true) → cond (not test) (1 + n) 0 < suc len → (test || rest) ≡ true
 any-at true rest n len later less = refl
@@ -17,6 +18,22 @@ none-at false rest n len later past = later (omega arith)
 pub none_placed : {A : Type 0} (p : A → Bool) (xs : List A) → length xs ≤ position_or_len p xs → list_any p xs ≡ false
 none_placed p [] past = refl
 none_placed p (x ∷ xs) past = none-at (p x) (list_any p xs) (position_or_len p xs) (length xs) (none_placed p xs) past
+
+within-at : (test : Bool) (n len : ℕ) → n ≤ len → cond (not test) (1 + n) 0 ≤ suc len
+within-at true n len within = omega arith
+within-at false n len within = omega arith
+
+place_within : {A : Type 0} (p : A → Bool) (xs : List A) → position_or_len p xs ≤ length xs
+place_within p [] = omega arith
+place_within p (x ∷ xs) = within-at (p x) (position_or_len p xs) (length xs) (place_within p xs)
+
+found-at : (less : Bool) (n len : ℕ) → nat_lt n len ≡ less → n ≤ len → unwrap_or (cond less (Some n) None) len ≡ n
+found-at true n len is within = refl
+found-at false n len is within = grind (arith, nat_tests)
+
+-- the place that is found, or how many there are
+pub place_found : {A : Type 0} (p : A → Bool) (xs : List A) → unwrap_or (position p xs) (length xs) ≡ position_or_len p xs
+place_found p xs = found-at (nat_lt (position_or_len p xs) (length xs)) (position_or_len p xs) (length xs) refl (place_within p xs)
 
 kept-at : (test : Bool) (n m len : ℕ) → (n < len → m ≡ n) → cond (not test) (1 + n) 0 < suc len → cond (not test) (1 + m) 0 ≡ cond (not test) (1 + n) 0
 kept-at true n m len later less = refl

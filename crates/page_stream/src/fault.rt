@@ -6,15 +6,15 @@ use thiserror::Error;
 #[derive(Clone, Copy, Debug, PartialEq, Eq, Error)]
 pub enum StreamFault {
     /// The first line isn't a page line, or there is none.
-    #[error("NoPage")]
+    #[error("the first line names no page")]
     NoPage,
     /// There is a page too many.
-    #[error("TooManyPages")]
+    #[error("line {line}: a page too many")]
     TooManyPages {
         /// The line, from 1, that names it first.
         line: u32,
     },
     /// No memory was left.
-    #[error("Memory")]
+    #[error("out of memory")]
     Memory,
 }

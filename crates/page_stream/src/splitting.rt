@@ -27,7 +27,10 @@ fn place_of(pages: &[Name], name: &Name) -> usize
     ensures place { result ≡ position_or_len (bytes_eq name.now) pages.now }
     ensures within { result ≤ length pages.now }
 {
-    pages.iter().take_while(|page| name != *page).count()
+    pages
+        .iter()
+        .position(|page| name == page)
+        .unwrap_or(pages.len())
 }
 
 impl Splitting {

@@ -1,4 +1,4 @@
-//! A stream: its pages, and whose each of its lines is.
+//! A stream: its pages, and to which of them each of its lines belongs.
 
 ghost use Rattle.std.specs.Prelude.{◌≡◌, ◌≢◌, ◌↔◌, ◌<◌, ◌≤◌, ◌-◌, ◌^◌, ℕ, true, false, length, slice_range, IfOk, IfErr, None, Some, Err};
 ghost use Rattle.page_stream.specs.Pages.{is_stream, page_line_past, pages_of};
@@ -87,7 +87,7 @@ impl<'a> Stream<'a> {
 /// Splits a stream into the lines of its pages.
 ///
 /// - `NoPage` exactly where the first line isn't a page line, or there is none.
-/// - `TooManyPages` at the first page line of a page more than `most_pages`, and nothing else where there is one but want of memory.
+/// - `TooManyPages` where more than `most_pages` pages are named, with the first line that names one too many.
 /// - `Memory` for want of memory.
 pub fn split(alloc: Global, source: &[u8], most_pages: usize) -> Result<Stream<'_>, StreamFault>
     requires { length source.now < 2 ^ 32 - 1 }

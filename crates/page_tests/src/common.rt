@@ -8,7 +8,7 @@ ghost use Rattle.page_boxes.specs.Kept.{AreKept};
 ghost use Rattle.page_boxes.specs.Pages.{seen_screen};
 
 use block_layout::ItemKind;
-use element_tree::NodeId;
+use element_tree::{DocumentId, NodeId};
 use intersection_observer::{Root, Watchers};
 use kept_layout::Kept;
 use page_boxes::{Screen, nothing_kept_fits, refresh};
@@ -40,9 +40,9 @@ pub(crate) fn any_name(rt: &impl Abort) -> Name {
 
 fn make_one(rt: &impl Abort, page: &mut PageTree, number: u32, is_frame: bool) -> Result<(), Fail> {
     let made = if is_frame {
-        page.make_frame(0, any_name(rt))?.0
+        page.make_frame(DocumentId(0), any_name(rt))?.0
     } else {
-        page.make(0, any_name(rt), ItemKind::Block)?
+        page.make(DocumentId(0), any_name(rt), ItemKind::Block)?
     };
     assert_eq!(rt; made, NodeId(number));
     Ok(())
@@ -93,7 +93,7 @@ pub(crate) fn place(
     }
     match container {
         Container::Element(parent) => assert!(rt; page.holds(parent)),
-        Container::Document(document) => assert!(rt; document < page.document_count()),
+        Container::Document(document) => assert!(rt; document.0 < page.document_count()),
     }
     page.place(container, NodeId(node), sibling)
 }
@@ -143,7 +143,7 @@ pub(crate) fn all_boxes(
 pub(crate) fn watch(
     alloc: Global,
     watchers: &mut Watchers,
-    document: u32,
+    document: DocumentId,
     root: Root,
     margins: &str,
     thresholds: &[i64],
@@ -185,9 +185,13 @@ pub(crate) fn apply(rt: &impl Abort, page: &mut PageTree, edit: Edit) -> &'stati
                 Some(NodeId(sibling)),
             )
         }
-        Edit::Root(document, node) => (Container::Document(document), node, None),
+        Edit::Root(document, node) => (Container::Document(DocumentId(document)), node, None),
         Edit::RootBefore(document, node, sibling) => {
-            (Container::Document(document), node, Some(NodeId(sibling)))
+            (
+                Container::Document(DocumentId(document)),
+                node,
+                Some(NodeId(sibling)),
+            )
         }
         Edit::Remove(node) => {
             remove(rt, page, node);
@@ -202,9 +206,9 @@ pub(crate) fn framed_page(rt: &impl Abort, alloc: Global) -> Result<PageTree, Fa
     let mut page = PageTree::new(alloc, Version::First)?;
     make_elements(rt, &mut page, 6, &[1, 2, 3])?;
     for (node, framed) in [
-        (1, Some(1)),
-        (2, Some(2)),
-        (3, Some(3)),
+        (1, Some(DocumentId(1))),
+        (2, Some(DocumentId(2))),
+        (3, Some(DocumentId(3))),
         (4, None),
         (5, None),
     ] {
@@ -235,28 +239,28 @@ fn digit(node: Option<NodeId>) -> char {
 
 fn push_states(text: &mut String, page: &PageTree) -> Result<(), Fail> {
     for document in 0..4 {
-        text.push(letter(page.state(document)))?;
+        text.push(letter(page.state(DocumentId(document))))?;
     }
     Ok(())
 }
 
 fn push_active(text: &mut String, page: &PageTree) -> Result<(), Fail> {
     for document in page.active_documents()? {
-        text.push(digit(Some(NodeId(document))))?;
+        text.push(digit(Some(NodeId(document.0))))?;
     }
     Ok(())
 }
 
 fn push_owners(text: &mut String, page: &PageTree) -> Result<(), Fail> {
     for node in 0..6 {
-        text.push(digit(Some(NodeId(page.document_of(NodeId(node))))))?;
+        text.push(digit(Some(NodeId(page.document_of(NodeId(node)).0))))?;
     }
     Ok(())
 }
 
 fn push_roots(text: &mut String, page: &PageTree) -> Result<(), Fail> {
     for document in 0..4 {
-        text.push(digit(page.root(document)))?;
+        text.push(digit(page.root(DocumentId(document))))?;
     }
     Ok(())
 }

@@ -8,7 +8,7 @@ ghost use Rattle.page_boxes.specs.Pages.{seen_screen, IsScreen};
 
 use crate::common::{SCREEN, all_boxes, any_name, empty_slots, make_elements, put, remove, set};
 use block_layout::ItemKind;
-use element_tree::NodeId;
+use element_tree::{DocumentId, NodeId};
 use kept_layout::Kept;
 use page_boxes::{
     Screen, has_box, is_scroller, nothing_kept_fits, refresh_for, refresh_in, size_of,
@@ -111,7 +111,7 @@ fn kind_of(node: u32) -> ItemKind
 fn make_with_image(rt: &impl Abort, page: &mut PageTree) -> Result<(), Fail> {
     for number in 0..8 {
         assert_eq!(rt;
-            page.make(0, any_name(rt), kind_of(number))?,
+            page.make(DocumentId(0), any_name(rt), kind_of(number))?,
             NodeId(number)
         );
     }
@@ -119,7 +119,7 @@ fn make_with_image(rt: &impl Abort, page: &mut PageTree) -> Result<(), Fail> {
 }
 
 fn place_and_style(rt: &impl Abort, page: &mut PageTree) {
-    put(rt, page, Container::Document(0), 0);
+    put(rt, page, Container::Document(DocumentId(0)), 0);
     for (parent, child) in PLACES {
         put(rt, page, Container::Element(NodeId(parent)), child);
     }
@@ -197,7 +197,7 @@ fn see(
         }
         Step::Content(node, content) => see_content(rt, &shown, node, content),
         Step::Top(width, height) => {
-            let found = shown.read(Container::Document(0));
+            let found = shown.read(Container::Document(DocumentId(0)));
             assert_eq!(rt; found, reading((0, 0, width, height), 0));
         }
         _ => {}
@@ -251,12 +251,12 @@ fn pages_are_read_as_they_are(rt: HostRuntime) -> Result<(), Fail> {
 
 /// Where elements are put: 1 is the frame of document 1, and 3 that of document 2. All are made in `top`.
 const NESTED: [(Container, u32); 8] = [
-    (Container::Document(0), 0),
+    (Container::Document(DocumentId(0)), 0),
     (Container::Element(NodeId(0)), 1),
-    (Container::Document(1), 2),
+    (Container::Document(DocumentId(1)), 2),
     (Container::Element(NodeId(2)), 6),
     (Container::Element(NodeId(2)), 3),
-    (Container::Document(2), 4),
+    (Container::Document(DocumentId(2)), 4),
     (Container::Element(NodeId(4)), 5),
     (Container::Element(NodeId(5)), 7),
 ];
@@ -414,7 +414,7 @@ const SCROLLED: [Look; 40] = [
 const INNER: ScrollTarget = ScrollTarget::Node(NodeId(5));
 
 /// The nested viewport.
-const OUTER: ScrollTarget = ScrollTarget::Document(1);
+const OUTER: ScrollTarget = ScrollTarget::Document(DocumentId(1));
 
 fn place_and_style_nested(rt: &impl Abort, page: &mut PageTree) {
     for (container, node) in NESTED {
@@ -489,14 +489,14 @@ fn renew_in<L: Ledger>(
     boxes: &mut Kept,
     page: &PageTree,
     screen: Screen,
-    document: u32,
+    document: DocumentId,
 )
     requires name { blank.name ≡ L.name }
     requires parts { blank.parts ≡ L.parts }
     requires one_part { 0 < blank.parts }
     requires kept { AreKept page.now.tree boxes.old }
-    ensures fresh { IsFreshIn page.now.tree (seen_screen screen) boxes.new document }
-    ensures above { IsFreshAbove page.now.tree (seen_screen screen) boxes.new document }
+    ensures fresh { IsFreshIn page.now.tree (seen_screen screen) boxes.new document.0 }
+    ensures above { IsFreshAbove page.now.tree (seen_screen screen) boxes.new document.0 }
 {
     let mut steps = Steps::<L>::new(blank);
     refresh_in(boxes, page, screen, document, &mut steps);
@@ -508,10 +508,10 @@ fn boxes_in(
     alloc: Global,
     page: &PageTree,
     screen: Screen,
-    document: u32,
+    document: DocumentId,
 ) -> Result<Kept, Fail>
-    ensures fresh { IfOk result (λ boxes. IsFreshIn page.now.tree (seen_screen screen) boxes document) }
-    ensures above { IfOk result (λ boxes. IsFreshAbove page.now.tree (seen_screen screen) boxes document) }
+    ensures fresh { IfOk result (λ boxes. IsFreshIn page.now.tree (seen_screen screen) boxes document.0) }
+    ensures above { IfOk result (λ boxes. IsFreshAbove page.now.tree (seen_screen screen) boxes document.0) }
 {
     assert!(rt; !page.holds(NodeId(9)));
     let mut boxes = empty_slots(alloc)?;
@@ -548,7 +548,7 @@ fn view_alone(
     page: &PageTree,
     scrolls: &Scrolls,
     screen: Screen,
-    document: u32,
+    document: DocumentId,
 ) -> Result<Reading, Fail>
     requires { IsScreen screen }
 {
@@ -626,7 +626,7 @@ fn read_viewport(
     page: &PageTree,
     scrolls: &Scrolls,
     is_narrow: bool,
-    document: u32,
+    document: DocumentId,
 ) -> Result<Reading, Fail> {
     let screen = screen_of(is_narrow);
     let boxes = all_boxes(rt, alloc, page, screen)?;
@@ -656,7 +656,7 @@ fn scroll_over(
         left: 0,
         top: i64::from(down),
     };
-    let _outcome = scrolls.scroll_to(0, target, wanted, range)?;
+    let _outcome = scrolls.scroll_to(DocumentId(0), target, wanted, range)?;
     let offset = Shown::new(page, boxes, scrolls, screen).offset_of(target);
     assert_eq!(rt; offset.top, i64::from(down).min(range.height));
     Ok(())
@@ -698,9 +698,10 @@ fn take_look(
             let found = read_twice(rt, alloc, page, scrolls, *is_narrow, node)?;
             assert_eq!(rt; found, reading(edges, down), "{node}");
         }
-        Look::Viewport(document, (width, height), down) => {
+        Look::Viewport(number, (width, height), down) => {
+            let document = DocumentId(number);
             let found = read_viewport(rt, alloc, page, scrolls, *is_narrow, document)?;
-            assert_eq!(rt; found, reading((0, 0, width, height), down), "{document}");
+            assert_eq!(rt; found, reading((0, 0, width, height), down), "{number}");
         }
     }
     Ok(())
@@ -829,7 +830,7 @@ fn see_pixels(
 fn sizes_are_counted_in_device_pixels(rt: HostRuntime) -> Result<(), Fail> {
     let mut page = PageTree::new(rt.alloc(), Version::Second)?;
     make_elements(&rt, &mut page, 1, &[])?;
-    put(&rt, &mut page, Container::Document(0), 0);
+    put(&rt, &mut page, Container::Document(DocumentId(0)), 0);
     for (property, value) in [("width", "10.5px"), ("height", "3px"), ("padding", "2px")] {
         set(&rt, &mut page, 0, property, value);
     }

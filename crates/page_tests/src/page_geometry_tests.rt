@@ -10,9 +10,9 @@ ghost use Rattle.page_boxes.specs.Fresh.{IsFresh};
 ghost use Rattle.page_boxes.specs.Pages.{seen_screen, IsScreen};
 
 use crate::common::{SCREEN, all_boxes, make_elements, put, remove, set, watch};
-use candidate_index::{Index, Scene, Standing};
+use candidate_index::{Index, Scene, Standing, spot_of_root};
 use clip_chain::{Spot, Through, reaches};
-use element_tree::NodeId;
+use element_tree::{DocumentId, NodeId};
 use intersection_observer::{Finding, RegistrationId, Root, WatcherId, Watchers};
 use kept_clips::Clips;
 use kept_findings::Tells;
@@ -40,13 +40,13 @@ type Style = (u32, &'static str, &'static str);
 type Watched = (Root, &'static str);
 
 const PLACES: [Place; 9] = [
-    (Container::Document(0), 0),
+    (Container::Document(DocumentId(0)), 0),
     (Container::Element(NodeId(0)), 2),
     (Container::Element(NodeId(2)), 3),
     (Container::Element(NodeId(2)), 1),
     (Container::Element(NodeId(2)), 4),
     (Container::Element(NodeId(0)), 8),
-    (Container::Document(1), 5),
+    (Container::Document(DocumentId(1)), 5),
     (Container::Element(NodeId(5)), 6),
     (Container::Element(NodeId(6)), 7),
 ];
@@ -81,7 +81,7 @@ const STYLES: [Style; 25] = [
 
 const WATCHED: [Watched; 6] = [
     (Root::Implicit, ""),
-    (Root::Document(1), "10px 0px"),
+    (Root::Document(DocumentId(1)), "10px 0px"),
     (Root::Node(NodeId(6)), "-10px"),
     (Root::Node(NodeId(5)), "5%"),
     (Root::Node(NodeId(2)), ""),
@@ -425,7 +425,7 @@ fn watch_all(
 ) -> Result<(), Fail> {
     for (root, margins) in watched {
         let watcher = watchers.count();
-        watch(alloc, watchers, 0, *root, margins, &THRESHOLDS)?;
+        watch(alloc, watchers, DocumentId(0), *root, margins, &THRESHOLDS)?;
         observe_all(rt, watchers, watcher)?;
     }
     Ok(())
@@ -449,7 +449,7 @@ fn scroll_over(
     requires fresh { IsFresh page.now.tree (seen_screen screen) boxes.now }
 {
     let range = Shown::new(page, boxes, scrolls, screen).range_of(target);
-    let _outcome = scrolls.scroll_to(0, target, Point { left: 0, top: down }, range)?;
+    let _outcome = scrolls.scroll_to(DocumentId(0), target, Point { left: 0, top: down }, range)?;
     Ok(())
 }
 
@@ -467,16 +467,6 @@ fn scroll(
 
 fn edges_of(rect: Rect) -> Edges {
     (rect.left, rect.top, rect.right, rect.bottom)
-}
-
-fn spot_of_root(root: Root) -> Spot
-    ensures { result ≡ spot_of_root (seen_root root) }
-{
-    match root {
-        Root::Implicit => Spot::View(0),
-        Root::Document(document) => Spot::View(document),
-        Root::Node(node) => Spot::Node(node),
-    }
 }
 
 // Makes sure that the chain leads from a target to a root wherever it is to.
@@ -564,7 +554,7 @@ fn find_over(
         registration,
         scroll,
     )?;
-    let is_chained = reaches(shown, Spot::Node(NodeId(target)), Spot::View(0));
+    let is_chained = reaches(shown, Spot::Node(NodeId(target)), Spot::View(DocumentId(0)));
     assert!(rt; is_chained || !finding.meets);
     Ok(finding)
 }
@@ -613,7 +603,7 @@ fn take_step(
             scroll(rt, alloc, page, scrolls, target, down)?;
         }
         Step::ScrollView(document, down) => {
-            let target = ScrollTarget::Document(document);
+            let target = ScrollTarget::Document(DocumentId(document));
             scroll(rt, alloc, page, scrolls, target, down)?;
         }
         Step::Set(node, property, value) => set(rt, page, node, property, value),
@@ -661,9 +651,9 @@ fn targets_are_found_as_they_are(rt: HostRuntime) -> Result<(), Fail> {
 
 /// In the frame: 3 clips, and in it stand an absolute box, 4, a fixed one, 5, and a relative one, 6.
 const HELD_PLACES: [Place; 8] = [
-    (Container::Document(0), 0),
+    (Container::Document(DocumentId(0)), 0),
     (Container::Element(NodeId(0)), 1),
-    (Container::Document(1), 2),
+    (Container::Document(DocumentId(1)), 2),
     (Container::Element(NodeId(2)), 3),
     (Container::Element(NodeId(3)), 4),
     (Container::Element(NodeId(3)), 5),
@@ -696,7 +686,7 @@ const HELD_STYLES: [Style; 20] = [
 
 const HELD_WATCHED: [Watched; 4] = [
     (Root::Implicit, ""),
-    (Root::Document(1), ""),
+    (Root::Document(DocumentId(1)), ""),
     (Root::Node(NodeId(3)), ""),
     (Root::Node(NodeId(2)), ""),
 ];

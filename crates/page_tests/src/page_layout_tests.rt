@@ -7,25 +7,26 @@ ghost use Rattle.page_boxes.specs.Pages.{IsScreen};
 
 use crate::common::{any_name, declaration};
 use block_layout::ItemKind;
-use element_tree::NodeId;
+use element_tree::{DocumentId, NodeId};
 use page_boxes::{Screen, size_of};
 use page_layout::LaidTree;
-use page_tree::{Axis, Container};
+use page_tree::Container;
 use px_units::{BoxKind, Percent, Px, Size};
 use std::marker::Brand;
 use std::process::Abort;
 use std::sync::ledger::{Blank, Ledger};
 use std::test::Fail;
 use step_count::Steps;
+use style_values::Axis;
 use text_io::Version;
 
 /// The image 2 is in the block 1, and the block 5 in the block 4, which is the root element of the document in the frame 3.
 const PLACES: [(Container, u32); 6] = [
-    (Container::Document(0), 0),
+    (Container::Document(DocumentId(0)), 0),
     (Container::Element(NodeId(0)), 1),
     (Container::Element(NodeId(1)), 2),
     (Container::Element(NodeId(0)), 3),
-    (Container::Document(1), 4),
+    (Container::Document(DocumentId(1)), 4),
     (Container::Element(NodeId(4)), 5),
 ];
 
@@ -365,7 +366,7 @@ fn place(
     }
     match container {
         Container::Element(parent) => assert!(rt; laid.page().holds(parent)),
-        Container::Document(document) => assert!(rt; document < laid.page().document_count()),
+        Container::Document(document) => assert!(rt; document.0 < laid.page().document_count()),
     }
     assert!(rt; laid.place(container, NodeId(node), sibling).is_ok());
 }
@@ -373,9 +374,15 @@ fn place(
 fn make_one(rt: &impl Abort, laid: &mut LaidTree, number: u32) -> Result<(), Fail> {
     let name = any_name(rt);
     if number == 3 {
-        assert_eq!(rt; laid.make_frame(0, name)?, (NodeId(number), 1));
+        assert_eq!(rt;
+            laid.make_frame(DocumentId(0), name)?,
+            (NodeId(number), DocumentId(1))
+        );
     } else {
-        assert_eq!(rt; laid.make(0, name, kind_of(number))?, NodeId(number));
+        assert_eq!(rt;
+            laid.make(DocumentId(0), name, kind_of(number))?,
+            NodeId(number)
+        );
     }
     Ok(())
 }

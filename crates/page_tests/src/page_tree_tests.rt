@@ -4,14 +4,14 @@ ghost use Rattle.std.specs.Prelude.{◌<◌};
 
 use crate::common::{Edit, Life, any_name, apply, framed_page, live_all, make_elements};
 use block_layout::ItemKind;
-use element_tree::NodeId;
+use element_tree::{DocumentId, NodeId};
 use page_documents::DocumentState;
-use page_tree::{Axis, Container, MakeFault, PageTree};
+use page_tree::{Container, MakeFault, PageTree};
 use px_units::{Length, Px, Size};
 use std::alloc::Global;
 use std::process::Abort;
 use std::test::Fail;
-use style_values::Declaration;
+use style_values::{Axis, Declaration};
 use text_io::{LimitKind, ThrowKind, Version};
 
 fn push_children(
@@ -37,7 +37,7 @@ fn push_shape(text: &mut String, alloc: Global, page: &PageTree) -> Result<(), F
     for number in 0..5 {
         push_children(text, alloc, page, number)?;
     }
-    if let Some(root) = page.root(0) {
+    if let Some(root) = page.root(DocumentId(0)) {
         text.push_str(format!(in alloc; "{}", root.0)?.as_str())?;
     }
     Ok(())
@@ -122,7 +122,7 @@ fn see_no_deeper(rt: &impl Abort, page: &mut PageTree) {
     assert_eq!(rt; apply(rt, page, Edit::Append(255, 256)), "depth");
     assert_eq!(rt; apply(rt, page, Edit::Root(0, 0)), "Ok");
     assert_eq!(rt; apply(rt, page, Edit::Append(256, 0)), "depth");
-    assert_eq!(rt; page.root(0), Some(NodeId(0)));
+    assert_eq!(rt; page.root(DocumentId(0)), Some(NodeId(0)));
 }
 
 #[test]
@@ -147,8 +147,11 @@ const LARGE: Size = Size {
 fn make_image(rt: &impl Abort, page: &mut PageTree) -> Result<(), Fail> {
     let name = any_name(rt);
     assert_eq!(rt; page.reserve()?, NodeId(0));
-    assert_eq!(rt; page.make(0, name, ItemKind::Image(SMALL))?, NodeId(0));
-    assert_eq!(rt; page.make(0, name, ItemKind::Block)?, NodeId(1));
+    assert_eq!(rt;
+        page.make(DocumentId(0), name, ItemKind::Image(SMALL))?,
+        NodeId(0)
+    );
+    assert_eq!(rt; page.make(DocumentId(0), name, ItemKind::Block)?, NodeId(1));
     assert!(rt; page.holds(NodeId(0)));
     assert_eq!(rt; page.name_of(NodeId(0)), name);
     Ok(())
@@ -193,9 +196,9 @@ fn lengths_grow_and_images_load(rt: HostRuntime) -> Result<(), Fail> {
 fn see_full(rt: &impl Abort, page: &mut PageTree) {
     let name = any_name(rt);
     assert!(rt; page.is_full());
-    let refused = page.make(0, name, ItemKind::Block);
+    let refused = page.make(DocumentId(0), name, ItemKind::Block);
     assert!(rt; matches!(refused, Err(MakeFault::Limit(LimitKind::Nodes))));
-    let refused = page.make_frame(0, name);
+    let refused = page.make_frame(DocumentId(0), name);
     assert!(rt; matches!(refused, Err(MakeFault::Limit(LimitKind::Nodes))));
     assert!(rt; matches!(page.reserve(), Err(MakeFault::Limit(LimitKind::Nodes))));
 }
@@ -214,13 +217,14 @@ fn no_more_elements_are_made_than_the_limit(rt: HostRuntime) -> Result<(), Fail>
 fn see_frame(rt: &impl Abort, page: &mut PageTree, number: u32) -> Result<(), Fail>
     requires { 0 < number }
 {
+    let document = DocumentId(number);
     assert!(rt; !page.is_full_of_documents());
     assert_eq!(rt;
-        page.make_frame(0, any_name(rt))?,
-        (NodeId(number - 1), number)
+        page.make_frame(DocumentId(0), any_name(rt))?,
+        (NodeId(number - 1), document)
     );
-    assert_eq!(rt; page.state(number), DocumentState::Fresh);
-    assert_eq!(rt; page.frame_of(number), Some(NodeId(number - 1)));
+    assert_eq!(rt; page.state(document), DocumentState::Fresh);
+    assert_eq!(rt; page.frame_of(document), Some(NodeId(number - 1)));
     Ok(())
 }
 
@@ -234,9 +238,12 @@ fn see_frames(rt: &impl Abort, page: &mut PageTree) -> Result<(), Fail> {
 fn see_full_of_documents(rt: &impl Abort, page: &mut PageTree) -> Result<(), Fail> {
     let name = any_name(rt);
     assert!(rt; page.is_full_of_documents());
-    let refused = page.make_frame(0, name);
+    let refused = page.make_frame(DocumentId(0), name);
     assert!(rt; matches!(refused, Err(MakeFault::Limit(LimitKind::Documents))));
-    assert_eq!(rt; page.make(0, name, ItemKind::Block)?, NodeId(63));
+    assert_eq!(rt;
+        page.make(DocumentId(0), name, ItemKind::Block)?,
+        NodeId(63)
+    );
     assert_eq!(rt; page.document_count(), 64);
     Ok(())
 }
@@ -262,7 +269,10 @@ const ENDING: [Life; 9] = [
 
 fn see_path(rt: &impl Abort, page: &PageTree) {
     assert!(rt; page.document_count() == 4);
-    assert_eq!(rt; page.path(3).as_slice(), [0, 2, 3].as_slice());
+    assert_eq!(rt;
+        page.path(DocumentId(3)).as_slice(),
+        [DocumentId(0), DocumentId(2), DocumentId(3)].as_slice()
+    );
 }
 
 #[test]
@@ -329,10 +339,13 @@ const ORDERED: [Life; 10] = [
 
 fn see_containers(rt: &impl Abort, page: &PageTree) {
     assert!(rt; page.holds(NodeId(5)));
-    assert_eq!(rt; page.tree_document(NodeId(5)), Some(2));
+    assert_eq!(rt; page.tree_document(NodeId(5)), Some(DocumentId(2)));
     let parent = Container::Element(NodeId(4));
     assert_eq!(rt; page.container_of(NodeId(5)), Some(parent));
-    assert_eq!(rt; page.container_of(NodeId(4)), Some(Container::Document(2)));
+    assert_eq!(rt;
+        page.container_of(NodeId(4)),
+        Some(Container::Document(DocumentId(2)))
+    );
 }
 
 #[test]

@@ -4,9 +4,10 @@ ghost use Rattle.std.specs.Prelude.{◌≡◌, ◌<◌};
 
 use crate::common::{SCREEN, any_name, declaration};
 use block_layout::ItemKind;
+use element_tree::DocumentId;
 use page_boxes::size_of;
 use page_layout::LaidTree;
-use page_tree::{Axis, Container, PageTree};
+use page_tree::{Container, PageTree};
 use px_units::{BoxKind, Px};
 use std::alloc::Global;
 use std::marker::Brand;
@@ -14,15 +15,17 @@ use std::process::Abort;
 use std::sync::ledger::{Blank, Ledger};
 use std::test::Fail;
 use step_count::Steps;
+use style_values::Axis;
 use text_io::{ThrowKind, Version};
 
 #[test]
 fn a_frame_comes_into_a_page(rt: HostRuntime) -> Result<(), Fail> {
     let mut page = PageTree::new(rt.alloc(), Version::First)?;
     assert!(rt; page.document_count() == 1); // `top`
-    let body = page.make(0, any_name(&rt), ItemKind::Block)?;
-    let (frame, inside) = page.make_frame(0, any_name(&rt))?; // a Fresh document in it
-    assert!(rt; page.place(Container::Document(0), body, None).is_ok()); // the root element of `top`
+    let top = DocumentId(0);
+    let body = page.make(top, any_name(&rt), ItemKind::Block)?;
+    let (frame, inside) = page.make_frame(top, any_name(&rt))?; // a Fresh document in it
+    assert!(rt; page.place(Container::Document(top), body, None).is_ok()); // the root element of `top`
     assert!(rt; page.place(Container::Element(body), frame, None).is_ok());
     assert!(rt; page.is_active(inside));
     let grown = page.grow(body, Axis::Width, Px(64));
@@ -38,8 +41,9 @@ fn see_height<L: Ledger>(blank: Blank, rt: &impl Abort, alloc: Global) -> Result
     let mut steps = Steps::<L>::new(blank);
     let mut laid = LaidTree::new(alloc, Version::First)?;
     assert!(rt; laid.page().document_count() == 1); // `top`
-    let body = laid.make(0, any_name(rt), ItemKind::Block)?;
-    assert!(rt; laid.place(Container::Document(0), body, None).is_ok());
+    let top = DocumentId(0);
+    let body = laid.make(top, any_name(rt), ItemKind::Block)?;
+    assert!(rt; laid.place(Container::Document(top), body, None).is_ok());
     laid.set(body, declaration(rt, "height", "20px")); // marks the element
     laid.refresh(SCREEN, &mut steps); // computes the boxes that are due
     let size = size_of(laid.page(), laid.boxes(), SCREEN, body, BoxKind::Border);

@@ -1,6 +1,7 @@
 //! What the tree carries of an element.
 
-ghost use Rattle.std.specs.Prelude.{◌≡◌, refl};
+ghost use Rattle.std.specs.Prelude.{◌≡◌, refl, option_map};
+ghost use Rattle.element_tree.specs.Documents.{document_number};
 ghost use Rattle.px_units.specs.declared.Size.{Size};
 ghost use Rattle.style_values.specs.Ranges.{IsAllowed, IsStyle};
 ghost use Rattle.style_values.specs.Seen.{seen_style, seen_declaration};
@@ -8,6 +9,7 @@ ghost use Rattle.block_layout.specs.Seen.{seen_kind};
 ghost use Rattle.page_tree.specs.Items.{IsNatural, IsKind, described, owned_by, with_item, declared_in, sized_in};
 
 use block_layout::{ItemKind, Styled};
+use element_tree::DocumentId;
 use page_documents::Owned;
 use px_units::Size;
 use std::marker::Model;
@@ -21,11 +23,13 @@ pub struct Element {
     name: Name,
     kind: ItemKind,
     style: Style,
-    document: u32,
-    framed: Option<u32>,
+    document: DocumentId,
+    framed: Option<DocumentId>,
 }
 
 impl Model for Element {
+    ghost use Rattle.std.specs.Prelude.{option_map};
+    ghost use Rattle.element_tree.specs.Documents.{document_number};
     ghost use Rattle.page_tree.specs.Items.{Described, IsKind};
     ghost use Rattle.block_layout.specs.Seen.{seen_kind};
     ghost use Rattle.style_values.specs.Seen.{seen_style};
@@ -33,16 +37,21 @@ impl Model for Element {
 
     ghost Value = { Described };
 
-    ghost view = { λ e. record { name = e.name; item = record { style = seen_style e.style; kind = seen_kind e.kind }; document = e.document; framed = e.framed } };
+    ghost view = { λ e. record { name = e.name; item = record { style = seen_style e.style; kind = seen_kind e.kind }; document = e.document.0; framed = option_map document_number e.framed } };
 
     ghost invariant = { λ e. IsStyle e.style × IsKind e.kind };
 }
 
 impl Element {
     // Made in this document, and the frame of the other one, if there is one.
-    pub(crate) fn new(name: Name, kind: ItemKind, document: u32, framed: Option<u32>) -> Element
+    pub(crate) fn new(
+        name: Name,
+        kind: ItemKind,
+        document: DocumentId,
+        framed: Option<DocumentId>,
+    ) -> Element
         requires { IsKind kind }
-        ensures { result ≡ described name (seen_kind kind) document framed }
+        ensures { result ≡ described name (seen_kind kind) document.0 (option_map document_number framed) }
     {
         Element {
             name,
@@ -104,15 +113,15 @@ impl Owned for Element {
 
     ghost adopted = { owned_by };
 
-    fn document(&self) -> u32 {
+    fn document(&self) -> DocumentId {
         self.document
     }
 
-    fn set_document(&mut self, document: u32) {
+    fn set_document(&mut self, document: DocumentId) {
         self.document = document;
     }
 
-    fn framed(&self) -> Option<u32> {
+    fn framed(&self) -> Option<DocumentId> {
         self.framed
     }
 

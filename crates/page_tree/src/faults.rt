@@ -7,10 +7,10 @@ use thiserror::Error;
 #[derive(Debug, Drop, Error)]
 pub enum PlaceFault {
     /// DOM's rules of insertion don't let it stand there.
-    #[error("Throw")]
+    #[error("{} is thrown", .0.text())]
     Throw(ThrowKind),
     /// It would stand too deep.
-    #[error("Limit")]
+    #[error("the limit of {} is met", .0.text())]
     Limit(LimitKind),
 }
 
@@ -18,9 +18,9 @@ pub enum PlaceFault {
 #[derive(Debug, Drop, Error)]
 pub enum MakeFault {
     /// As many elements, or documents, as a page may have were made.
-    #[error("Limit")]
+    #[error("the limit of {} is met", .0.text())]
     Limit(LimitKind),
     /// There is no memory.
-    #[error("Memory")]
+    #[error("out of memory")]
     Memory,
 }

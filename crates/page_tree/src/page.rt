@@ -6,7 +6,7 @@ ghost use Rattle.px_units.specs.Lengths.{Pixels};
 ghost use Rattle.text_io.specs.Limits.{limit_number};
 ghost use Rattle.text_io.specs.declared.kinds.LimitKind.TheVariants as limits;
 ghost use Rattle.style_values.specs.Ranges.{IsAllowed, IsUnits};
-ghost use Rattle.style_values.specs.Seen.{seen_declaration};
+ghost use Rattle.style_values.specs.Seen.{seen_axis, seen_declaration};
 ghost use Rattle.element_tree.specs.Links.{number};
 ghost use Rattle.element_tree.specs.Edits.{inserted, with_nodes};
 ghost use Rattle.page_model.specs.Lookups.{element_at};
@@ -20,18 +20,18 @@ ghost use Rattle.page_tree.specs.Items.{IsKind, IsNatural};
 ghost use Rattle.page_tree.specs.Faults.{refusal, element_room, frame_room, has_element_room, has_document_room, IsMakeFault, IsFrameFault};
 ghost use Rattle.page_tree.specs.Changes.{ChangesAtNext, ChangesAtParents, ChangesAtParent, ChangesAtElement};
 ghost use Rattle.page_tree.specs.Answers.{put_fault, mark_for, refusal_of, unmade_of, is_elsewhere};
-ghost use Rattle.page_tree.specs.Steps.{seen_container, seen_axis, IsContainerIn};
+ghost use Rattle.page_tree.specs.Steps.{seen_container, IsContainerIn};
 
 use crate::element::Element;
 use crate::faults::{MakeFault, PlaceFault};
 use crate::standing::{is_no_root, leave};
 use block_layout::{ItemKind, Styled};
-use element_tree::{NodeId, Tree, TreeFault};
+use element_tree::{DocumentId, NodeId, Tree, TreeFault};
 use page_documents::{Documents, MOST_DOCUMENTS, Owned};
 use px_units::{Length, Px, Size};
 use std::alloc::{AllocError, Global};
 use std::marker::Model;
-use style_values::Declaration;
+use style_values::{Axis, Declaration};
 use text_io::{LimitKind, Name, ThrowKind, Version};
 
 /// As many elements as a path to a root may have.
@@ -45,17 +45,8 @@ const MOST_UNITS: i64 = 64_000_000;
 pub enum Container {
     /// This element.
     Element(NodeId),
-    /// The document of this number; `top` is number 0.
-    Document(u32),
-}
-
-/// Which of an element's two properties grows.
-#[derive(Clone, Copy, Debug, PartialEq, Eq)]
-pub enum Axis {
-    /// `width`
-    Width,
-    /// `height`
-    Height,
+    /// This document; `top` is number 0.
+    Document(DocumentId),
 }
 
 /// The elements and documents of a page, within the limits of a version of the script language. A contract sees them as the lists of
@@ -131,12 +122,17 @@ impl PageTree {
     ///
     /// `Limit` comes exactly where the page is full; else `Memory` where there is none, which isn't after
     /// `reserve`. Nothing is changed then but that room may have been made.
-    pub fn make(&mut self, document: u32, name: Name, kind: ItemKind) -> Result<NodeId, MakeFault>
+    pub fn make(
+        &mut self,
+        document: DocumentId,
+        name: Name,
+        kind: ItemKind,
+    ) -> Result<NodeId, MakeFault>
         requires { IsKind kind }
         ensures node { IfOk result (λ node. node.0 ≡ length self.old.tree.elements) }
         ensures roomy { OnOk result (element_room self.old ≡ Did tt) }
         ensures made { OnOk result (self.new ≡ record self.old {
-          tree = with_element (seen_kind kind) document None (self.old.tree);
+          tree = with_element (seen_kind kind) document.0 None (self.old.tree);
           names = self.old.names ++ name ∷ [];
           ready = self.new.ready;
         }) }
@@ -157,16 +153,20 @@ impl PageTree {
     }
 
     /// Makes a frame with this name, in a document and standing nowhere, and the Fresh document in it, which has no root element
-    /// (HTML, 4.8.5 and 7.3), and gives both numbers. The frame has no style set.
+    /// (HTML, 4.8.5 and 7.3), and gives both names. The frame has no style set.
     ///
     /// `Limit(Nodes)` comes exactly where the page is full, then `Limit(Documents)` where 64 documents were made; else
     /// `Memory` where there is none, which isn't after `reserve`. Nothing is changed then but that room may have been made.
-    pub fn make_frame(&mut self, document: u32, name: Name) -> Result<(NodeId, u32), MakeFault>
+    pub fn make_frame(
+        &mut self,
+        document: DocumentId,
+        name: Name,
+    ) -> Result<(NodeId, DocumentId), MakeFault>
         ensures node { IfOk result (λ made. made.0.0 ≡ length self.old.tree.elements) }
-        ensures document { IfOk result (λ made. made.1 ≡ length self.old.tree.documents) }
+        ensures document { IfOk result (λ made. made.1.0 ≡ length self.old.tree.documents) }
         ensures roomy { OnOk result (frame_room self.old ≡ Did tt) }
         ensures made { OnOk result (self.new ≡ record self.old {
-          tree = with_frame document (self.old.tree);
+          tree = with_frame document.0 (self.old.tree);
           names = self.old.names ++ name ∷ [];
           ready = self.new.ready;
         }) }
@@ -183,7 +183,7 @@ impl PageTree {
         if self.is_full_of_documents() {
             return Err(MakeFault::Limit(LimitKind::Documents));
         }
-        let framed = self.documents.count();
+        let framed = DocumentId(self.documents.count());
         let element = Element::new(name, ItemKind::Frame, document, Some(framed));
         let Ok(node) = self.tree.add(element) else {
             return Err(MakeFault::Memory);
@@ -333,19 +333,19 @@ impl PageTree {
     // Makes an element the root element of a document.
     fn place_on_top(
         &mut self,
-        document: u32,
+        document: DocumentId,
         node: NodeId,
         sibling: Option<NodeId>,
     ) -> Result<(), PlaceFault>
-        requires document { document < length self.old.tree.documents }
+        requires document { document.0 < length self.old.tree.documents }
         requires node { node.0 < length self.old.tree.elements }
-        ensures done { OnOk result (placing (InDocument document) node.0 (option_map number sibling) (self.old.tree)
+        ensures done { OnOk result (placing (InDocument document.0) node.0 (option_map number sibling) (self.old.tree)
             ≡ Did (self.new.tree)) }
         ensures rest { OnOk result (self.new ≡ record self.old { tree = self.new.tree }) }
         ensures count { length self.new.tree.elements ≡ length self.old.tree.elements }
         ensures documents { length self.new.tree.documents ≡ length self.old.tree.documents }
-        ensures changes { OnOk result (ChangesAtParents (InDocument document) node.0 self.old.tree self.new.tree) }
-        ensures refused { IfErr result (λ fault. placing (InDocument document) node.0 (option_map number sibling) (self.old.tree)
+        ensures changes { OnOk result (ChangesAtParents (InDocument document.0) node.0 self.old.tree self.new.tree) }
+        ensures refused { IfErr result (λ fault. placing (InDocument document.0) node.0 (option_map number sibling) (self.old.tree)
             ≡ refusal fault) }
         ensures same { OnErr result (self.new ≡ self.old) }
     {

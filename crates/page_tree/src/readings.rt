@@ -3,6 +3,7 @@
 ghost use Rattle.std.specs.Prelude.{◌≡◌, ◌≢◌, ℕ, ◌<◌, ◌≤◌, nat_lt, length, option_map, slice_get, Some, None, IfOk, IfSome, IsSome, is_some, true};
 ghost use Rattle.text_io.specs.Limits.{common_limit};
 ghost use Rattle.text_io.specs.declared.kinds.LimitKind.TheVariants as limits;
+ghost use Rattle.element_tree.specs.Documents.{document_number, document_numbers};
 ghost use Rattle.element_tree.specs.Links.{number};
 ghost use Rattle.style_values.specs.Ranges.{IsStyle};
 ghost use Rattle.style_values.specs.Seen.{seen_style};
@@ -22,7 +23,7 @@ use crate::element::Element;
 use crate::page::{Container, PageTree};
 use crate::standing::{container_of, document_of, root_of};
 use block_layout::{ItemKind, Styled};
-use element_tree::{NodeId, Tree};
+use element_tree::{DocumentId, NodeId, Tree};
 use page_documents::{DocumentState, Owned};
 use smallvec::SmallVec;
 use std::alloc::AllocError;
@@ -42,10 +43,10 @@ impl PageTree {
     }
 
     /// The state of a document. Dead where there is no such document.
-    pub fn state(&self, document: u32) -> DocumentState
-        ensures { seen_state result ≡ (document_at (self.now.tree) document).state }
+    pub fn state(&self, document: DocumentId) -> DocumentState
+        ensures { seen_state result ≡ (document_at (self.now.tree) document.0).state }
     {
-        if document < self.documents.count() {
+        if document.0 < self.documents.count() {
             self.documents.state(document)
         } else {
             DocumentState::Dead
@@ -53,11 +54,11 @@ impl PageTree {
     }
 
     /// Whether a document is Active (HTML, 7.3: active document). Not where there is no such document.
-    pub fn is_active(&self, document: u32) -> bool
-        ensures value { result ≡ is_active (self.now.tree) document }
-        ensures bound { result ≡ true → document < common_limit limits.Documents }
+    pub fn is_active(&self, document: DocumentId) -> bool
+        ensures value { result ≡ is_active (self.now.tree) document.0 }
+        ensures bound { result ≡ true → document.0 < common_limit limits.Documents }
     {
-        if document >= self.document_count() {
+        if document.0 >= self.document_count() {
             return false;
         }
         match self.state(document) {
@@ -71,16 +72,16 @@ impl PageTree {
     /// # Errors
     ///
     /// Where there is no memory.
-    pub fn active_documents(&self) -> Result<Vec<u32>, AllocError>
-        ensures { IfOk result (λ found. found.items ≡ active_documents (self.now.tree)) }
+    pub fn active_documents(&self) -> Result<Vec<DocumentId>, AllocError>
+        ensures { IfOk result (λ found. document_numbers found.items ≡ active_documents (self.now.tree)) }
     {
         self.documents.active(&self.tree)
     }
 
     /// The root element of a document, none where it has none or there is no such document. It has no parent.
-    pub fn root(&self, document: u32) -> Option<NodeId>
-        ensures value { option_map number result ≡ (document_at (self.now.tree) document).root }
-        ensures alone { (n : ℕ) → (document_at (self.now.tree) document).root ≡ Some n → (element_at (self.now.tree) n).parent ≡ None }
+    pub fn root(&self, document: DocumentId) -> Option<NodeId>
+        ensures value { option_map number result ≡ (document_at (self.now.tree) document.0).root }
+        ensures alone { (n : ℕ) → (document_at (self.now.tree) document.0).root ≡ Some n → (element_at (self.now.tree) n).parent ≡ None }
         ensures held { IfSome result (λ root. root.0 < length self.now.tree.elements) }
         ensures framed { AreFramed (self.now.tree) }
     {
@@ -88,12 +89,12 @@ impl PageTree {
     }
 
     /// The frame of a document (HTML, 7.3: container). None exactly for `top` and where there is no such document.
-    pub fn frame_of(&self, document: u32) -> Option<NodeId>
-        ensures value { option_map number result ≡ (document_at (self.now.tree) document).frame }
-        ensures top { document ≡ 0 → result ≡ None }
-        ensures framed { document ≢ 0 → document < length self.now.tree.documents → IsSome result }
+    pub fn frame_of(&self, document: DocumentId) -> Option<NodeId>
+        ensures value { option_map number result ≡ (document_at (self.now.tree) document.0).frame }
+        ensures top { document.0 ≡ 0 → result ≡ None }
+        ensures framed { document.0 ≢ 0 → document.0 < length self.now.tree.documents → IsSome result }
     {
-        if document < self.documents.count() {
+        if document.0 < self.documents.count() {
             self.documents.frame_of(document)
         } else {
             None
@@ -101,32 +102,32 @@ impl PageTree {
     }
 
     /// The documents from `top` to this one, each the one that holds the frame of the next. It takes no memory.
-    pub fn path(&self, document: u32) -> SmallVec<u32, 64>
-        requires { document < length self.now.tree.documents }
-        ensures path { result.items ≡ path_to (self.now.tree) document }
-        ensures top { is_active (self.now.tree) document ≡ true → first_of_list result.items ≡ Some 0 }
+    pub fn path(&self, document: DocumentId) -> SmallVec<DocumentId, 64>
+        requires { document.0 < length self.now.tree.documents }
+        ensures path { document_numbers result.items ≡ path_to (self.now.tree) document.0 }
+        ensures top { is_active (self.now.tree) document.0 ≡ true → first_of_list (document_numbers result.items) ≡ Some 0 }
     {
         self.documents.path(&self.tree, document)
     }
 
     /// The node document of an element (DOM, 4.4). `top` where there is no such element.
-    pub fn document_of(&self, node: NodeId) -> u32
-        ensures { result ≡ (element_at (self.now.tree) node.0).document }
+    pub fn document_of(&self, node: NodeId) -> DocumentId
+        ensures { result.0 ≡ (element_at (self.now.tree) node.0).document }
     {
         document_of(&self.tree, &self.documents, node)
     }
 
     /// The document in whose tree an element stands, none where it stands in no document's tree (DOM, 4.2.1: in a document tree).
-    pub fn tree_document(&self, node: NodeId) -> Option<u32>
+    pub fn tree_document(&self, node: NodeId) -> Option<DocumentId>
         requires { node.0 < length self.now.tree.elements }
-        ensures { result ≡ tree_document (self.now.tree) node.0 }
+        ensures { option_map document_number result ≡ tree_document (self.now.tree) node.0 }
     {
         self.documents.tree_document(&self.tree, node)
     }
 
     /// The document in a frame (HTML, 4.8.5: content navigable), none for another element.
-    pub fn framed(&self, node: NodeId) -> Option<u32>
-        ensures { result ≡ (element_at (self.now.tree) node.0).framed }
+    pub fn framed(&self, node: NodeId) -> Option<DocumentId>
+        ensures { option_map document_number result ≡ (element_at (self.now.tree) node.0).framed }
     {
         if self.tree.holds(node) {
             self.tree.payload(node).framed()

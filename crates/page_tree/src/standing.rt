@@ -12,15 +12,15 @@ ghost use Rattle.page_tree.specs.Steps.{seen_container, IsBelow};
 
 use crate::element::Element;
 use crate::page::Container;
-use element_tree::{NodeId, Tree};
+use element_tree::{DocumentId, NodeId, Tree};
 use page_documents::{Documents, Owned};
 
-/// The number of the document `top`, which elements that aren't there count as elements of.
-const TOP: u32 = 0;
+/// The document `top`, which elements that aren't there count as elements of.
+const TOP: DocumentId = DocumentId(0);
 
 // The node document of an element.
-pub(crate) fn document_of(tree: &Tree<Element>, documents: &Documents, node: NodeId) -> u32
-    ensures { result ≡ (element_at (seen_tree carried_in tree.now documents.now.held) node.0).document }
+pub(crate) fn document_of(tree: &Tree<Element>, documents: &Documents, node: NodeId) -> DocumentId
+    ensures { result.0 ≡ (element_at (seen_tree carried_in tree.now documents.now.held) node.0).document }
 {
     if tree.holds(node) {
         tree.payload(node).document()
@@ -30,10 +30,14 @@ pub(crate) fn document_of(tree: &Tree<Element>, documents: &Documents, node: Nod
 }
 
 // The root element of a document, none where there is no such document.
-pub(crate) fn root_of(tree: &Tree<Element>, documents: &Documents, document: u32) -> Option<NodeId>
-    ensures { option_map number result ≡ (document_at (seen_tree carried_in tree.now documents.now.held) document).root }
+pub(crate) fn root_of(
+    tree: &Tree<Element>,
+    documents: &Documents,
+    document: DocumentId,
+) -> Option<NodeId>
+    ensures { option_map number result ≡ (document_at (seen_tree carried_in tree.now documents.now.held) document.0).root }
 {
-    if document < documents.count() {
+    if document.0 < documents.count() {
         documents.root_of(document)
     } else {
         None
@@ -80,11 +84,11 @@ pub(crate) fn container_of(
 }
 
 // Whether an element that stands here is the root element of this document.
-fn is_in_document(container: Option<Container>, document: u32) -> bool
-    ensures { result ≡ is_container_of (InDocument document) (option_map seen_container container) }
+fn is_in_document(container: Option<Container>, document: DocumentId) -> bool
+    ensures { result ≡ is_container_of (InDocument document.0) (option_map seen_container container) }
 {
     match container {
-        Some(Container::Document(found)) => document == found,
+        Some(Container::Document(found)) => document.0 == found.0,
         Some(Container::Element(_)) | None => false,
     }
 }
@@ -93,10 +97,10 @@ fn is_in_document(container: Option<Container>, document: u32) -> bool
 pub(crate) fn is_no_root(
     tree: &Tree<Element>,
     documents: &Documents,
-    document: u32,
+    document: DocumentId,
     sibling: Option<NodeId>,
 ) -> bool
-    ensures { result ≡ is_no_child (seen_tree carried_in tree.now documents.now.held) (InDocument document) (option_map number sibling) }
+    ensures { result ≡ is_no_child (seen_tree carried_in tree.now documents.now.held) (InDocument document.0) (option_map number sibling) }
 {
     match sibling {
         Some(named) => !is_in_document(container_of(tree, documents, named), document),

@@ -12,8 +12,8 @@ use crate::{Holder, Placed};
 use element_tree::{NodeId, Tree};
 use style_values::Position;
 
-// How a node is positioned: a root element counts as static.
-pub(crate) fn position<P: Placed>(tree: &Tree<P>, node: NodeId) -> Position
+/// How an element is positioned: a root element counts as static. No memory.
+pub fn position<P: Placed>(tree: &Tree<P>, node: NodeId) -> Position
     requires { node.0 < length tree.now.nodes }
     ensures value { (at : ℕ → Node) → AreNodesOf P.placed tree.now.nodes at → seen_position result ≡ position_of (at node.0) }
     ensures forest { IsForest tree.now.most_depth tree.now.nodes }
@@ -24,7 +24,6 @@ pub(crate) fn position<P: Placed>(tree: &Tree<P>, node: NodeId) -> Position
     }
 }
 
-// Whether a node is positioned.
 pub(crate) fn is_positioned<P: Placed>(tree: &Tree<P>, node: NodeId) -> bool
     requires { node.0 < length tree.now.nodes }
     ensures value { (at : ℕ → Node) → AreNodesOf P.placed tree.now.nodes at → result ≡ is_positioned (at node.0) }

@@ -54,7 +54,7 @@ pub(crate) fn used_margin(margin: Length, width: i64) -> i64
     }
 }
 
-/// Along which places are counted.
+/// The axis of a coordinate.
 #[derive(Clone, Copy)]
 pub(crate) enum Axis {
     Across,
@@ -73,7 +73,7 @@ pub(crate) struct Side {
     pub(crate) border: i64,
 }
 
-// How far a border box is moved along an axis: from the padding box of what holds it, or from where it is in the flow, or would be.
+// How far a border box is moved along an axis: from the padding box of its holder, or from its place in the flow, as if it were in flow.
 #[derive(Clone, Copy)]
 pub(crate) enum Moved {
     FromHolder(i64),

@@ -10,7 +10,7 @@ mod reaches;
 
 use block_layout::Styled;
 use element_tree::NodeId;
-pub use holders::holder_of;
+pub use holders::{holder_of, position};
 pub use places::flat_place;
 use px_units::{Point, Size};
 pub use reaches::reach;
@@ -32,7 +32,7 @@ pub trait Placed {
         ensures range { IsStyle result.now };
 }
 
-// What is laid out as blocks is placed by the same style.
+// An element that is laid out by a style is placed by it too.
 impl<P: Styled> Placed for P {
     ghost placed = { P.style };
 

@@ -10,10 +10,10 @@ use thiserror::Error;
 #[derive(Clone, Copy, Debug, PartialEq, Eq, Error)]
 pub enum LengthFault {
     /// The text isn't a decimal number with the unit.
-    #[error("NotALength")]
+    #[error("not a decimal number with the unit")]
     NotALength,
     /// It is one, but with too many digits or above the bound.
-    #[error("OutOfRange")]
+    #[error("too many digits, or above the bound")]
     OutOfRange,
 }
 

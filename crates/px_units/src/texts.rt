@@ -5,7 +5,7 @@ use crate::Px;
 use std::alloc::{AllocError, Global};
 use word_model::push_decimal;
 
-/// Writes a point and the decimals of so many 64ths of a pixel at the buffer's begin, and answers where they end there.
+/// Writes a point and the decimals of so many 64ths of a pixel at the start of the buffer, and answers where they end.
 fn write_rest(buffer: &mut [u8; 7], rest: u64) -> usize
     requires some { 0 < rest }
     requires small { rest < 64 }

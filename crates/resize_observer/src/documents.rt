@@ -5,10 +5,11 @@ ghost use Rattle.std.specs.HashMap.{get};
 ghost use Rattle.page_model.specs.World.{ResizeObserver};
 ghost use Rattle.resize_observer.specs.Documents.{Tells, same_key};
 
+use element_tree::DocumentId;
 use std::alloc::{AllocError, Global};
 use std::collections::HashMap;
 
-/// How many observers each document has, and by a document and a place among its observers the number of the one that
+/// How many observers each document has by its number, and by that and a place among its observers the number of the one that
 /// stands there: so that none is looked for in the list of all.
 #[derive(Drop)]
 pub(crate) struct Documents {
@@ -27,22 +28,22 @@ impl Documents {
     }
 
     /// The number of the document's observer at this place, none past the last.
-    pub(crate) fn at(&self, document: u32, place: usize) -> Option<u32>
-        ensures { result ≡ get same_key self.now.numbers (document, place) }
+    pub(crate) fn at(&self, document: DocumentId, place: usize) -> Option<u32>
+        ensures { result ≡ get same_key self.now.numbers (document.0, place) }
     {
-        self.numbers.get(&(document, place)).copied()
+        self.numbers.get(&(document.0, place)).copied()
     }
 
     /// Notes the observer that is made next, of this document and with this number.
-    pub(crate) fn note(&mut self, document: u32, number: u32) -> Result<(), AllocError>
-        requires { unwrap_or (get nat_eq self.old.counts document) 0 ≤ number }
-        ensures noted { OnOk result ((made : List ResizeObserver) (new : ResizeObserver) → Tells self.old made → length made ≡ number → new.document ≡ document → Tells self.new (made ++ new ∷ [])) }
+    pub(crate) fn note(&mut self, document: DocumentId, number: u32) -> Result<(), AllocError>
+        requires { unwrap_or (get nat_eq self.old.counts document.0) 0 ≤ number }
+        ensures noted { OnOk result ((made : List ResizeObserver) (new : ResizeObserver) → Tells self.old made → length made ≡ number → new.document ≡ document.0 → Tells self.new (made ++ new ∷ [])) }
         ensures same { OnErr result ((made : List ResizeObserver) → Tells self.old made → Tells self.new made) }
     {
         self.counts.reserve(1)?;
-        let place = self.counts.get(&document).copied().unwrap_or(0);
-        self.numbers.insert((document, place), number)?;
-        self.counts.insert(document, place + 1)?;
+        let place = self.counts.get(&document.0).copied().unwrap_or(0);
+        self.numbers.insert((document.0, place), number)?;
+        self.counts.insert(document.0, place + 1)?;
         Ok(())
     }
 }

@@ -8,7 +8,7 @@ ghost use Rattle.resize_observer.specs.Observers.{ungathered, gathered_at, list_
 
 use crate::Observation;
 use crate::observation::{put_last, remove_target, set_last};
-use element_tree::NodeId;
+use element_tree::{DocumentId, NodeId};
 use px_units::Size;
 use std::alloc::{AllocError, Global};
 use std::collections::HashSet;
@@ -16,7 +16,7 @@ use std::marker::Model;
 
 #[derive(Drop)]
 pub(crate) struct Observer {
-    document: u32,
+    document: DocumentId,
     handler: Option<u32>,
     // In order of their serial numbers, and beside them the elements that they observe: an observation is searched for by
     // halves, and an element isn't looked for in the list.
@@ -36,14 +36,14 @@ impl Model for Observer {
     ghost use Rattle.resize_observer.specs.Observations.{seen_observations};
     ghost use Rattle.resize_observer.specs.Held.{IsKept};
 
-    ghost view = { λ o. record { document = o.document; handler = o.handler; targets = seen_observations o.targets.items; active = seen_observations o.active.items; skipped = seen_observations o.skipped.items } };
+    ghost view = { λ o. record { document = o.document.0; handler = o.handler; targets = seen_observations o.targets.items; active = seen_observations o.active.items; skipped = seen_observations o.skipped.items } };
 
     ghost invariant = { λ o. IsKept o.targets.items o.active.items o.skipped.items o.observed (vec_capacity o.active) (vec_capacity o.skipped) };
 }
 
 impl Observer {
-    pub(crate) fn new(alloc: Global, document: u32, handler: Option<u32>) -> Observer
-        ensures { result ≡ record { document = document; handler = handler; targets = []; active = []; skipped = [] } }
+    pub(crate) fn new(alloc: Global, document: DocumentId, handler: Option<u32>) -> Observer
+        ensures { result ≡ record { document = document.0; handler = handler; targets = []; active = []; skipped = [] } }
     {
         Observer {
             document,
@@ -55,8 +55,8 @@ impl Observer {
         }
     }
 
-    pub(crate) fn document(&self) -> u32
-        ensures { result ≡ self.now.document }
+    pub(crate) fn document(&self) -> DocumentId
+        ensures { result.0 ≡ self.now.document }
     {
         self.document
     }

@@ -10,7 +10,7 @@ ghost use Rattle.resize_observer.specs.Observers.{observer_at, nth_of, has_room,
 use crate::documents::Documents;
 use crate::observer::Observer;
 use crate::{Observation, ObserverId};
-use element_tree::NodeId;
+use element_tree::{DocumentId, NodeId};
 use px_units::{BoxKind, Size};
 use std::alloc::Global;
 use std::marker::Model;
@@ -20,10 +20,10 @@ use thiserror::Error;
 #[derive(Clone, Copy, Debug, PartialEq, Eq, Error)]
 pub enum ObserveFault {
     /// As many as there may be are there.
-    #[error("Limit")]
+    #[error("as many as there may be are there")]
     Limit,
     /// There is no memory.
-    #[error("Memory")]
+    #[error("out of memory")]
     Memory,
 }
 
@@ -89,9 +89,13 @@ impl Observers {
     /// (Resize Observer, 2.1: the constructor).
     ///
     /// `Limit` exactly where `most_observers` were made; else `Memory` where there is none.
-    pub fn make(&mut self, document: u32, handler: Option<u32>) -> Result<ObserverId, ObserveFault>
+    pub fn make(
+        &mut self,
+        document: DocumentId,
+        handler: Option<u32>,
+    ) -> Result<ObserverId, ObserveFault>
         ensures observer { IfOk result (λ observer. observer.0 ≡ length self.old.part.made) }
-        ensures made { OnOk result (self.new ≡ record self.old { part = with_resize_observer document handler (self.old.part) }) }
+        ensures made { OnOk result (self.new ≡ record self.old { part = with_resize_observer document.0 handler (self.old.part) }) }
         ensures same { OnErr result (self.new ≡ self.old) }
         ensures room { Enters result (has_room self.old) }
     {
@@ -265,9 +269,9 @@ impl Observers {
     }
 
     /// The document whose observer this is.
-    pub fn document(&self, observer: ObserverId) -> u32
+    pub fn document(&self, observer: ObserverId) -> DocumentId
         requires { observer.0 < length self.now.part.made }
-        ensures { result ≡ (observer_at self.now observer.0).document }
+        ensures { result.0 ≡ (observer_at self.now observer.0).document }
     {
         self.made[observer.0 as usize].document()
     }
@@ -281,8 +285,8 @@ impl Observers {
     }
 
     /// The document's observer at this place in order of making, counted from 0. None exactly past the last.
-    pub fn of_document(&self, document: u32, place: usize) -> Option<ObserverId>
-        ensures value { option_map (λ observer. observer.0) result ≡ nth_of self.now document place }
+    pub fn of_document(&self, document: DocumentId, place: usize) -> Option<ObserverId>
+        ensures value { option_map (λ observer. observer.0) result ≡ nth_of self.now document.0 place }
         ensures made { IfSome result (λ observer. observer.0 < length self.now.part.made) }
         ensures limits { IsLimited self.now }
     {

@@ -1,6 +1,7 @@
 //! The lines of limits, and of texts that are no scripts.
 
 ghost use Rattle.std.specs.Prelude.{◌≡◌, [], ◌∷◌, false};
+ghost use Rattle.text_io.specs.Limits.{IsCommon};
 ghost use Rattle.script_model.specs.TraceLines.{LimitLine};
 ghost use Rattle.script_model.specs.Reading.{LimitAt, SyntaxAt};
 ghost use Rattle.trace_runs.specs.Writes.{Told};
@@ -33,11 +34,12 @@ pub fn write_limit<K: Sink>(
     write_one(alloc, &line, sink)
 }
 
-/// Writes the line of a limit that was met while a source was read. Such a limit is the same in each version.
+/// Writes the line of a limit that was met while a source was read, one that is the same in each version.
 ///
 /// `Limit`; or `NoMemory` for want of memory, or `WriteFault`, only where the sink's count of faults rose in this call, with a first part of
 /// the line.
 pub fn meet_limit<K: Sink>(alloc: Global, kind: LimitKind, line: u32, sink: &mut K) -> Status
+    requires { IsCommon kind }
     ensures tells { Tells result (refused_with (LimitAt kind line)) (K.taken sink.old) (K.taken sink.new) (K.faults sink.old) (K.faults sink.new) }
     ensures done { is_done result ≡ false }
 {

@@ -4,6 +4,7 @@ ghost use Rattle.std.specs.Prelude.{◌≡◌, ◌<◌};
 ghost use Rattle.script_syntax.specs.Allowed.{IsAllowed};
 
 use crate::common::{failing, script_of};
+use element_tree::DocumentId;
 use event_tables::HandlerId;
 use handlers::{Entries, run_command, run_handler};
 use page_state::Page;
@@ -76,7 +77,7 @@ fn run_text<L: Ledger>(
     alloc: Global,
     page: &mut Page,
     script: &Script,
-    document: u32,
+    document: DocumentId,
     sink: &mut MemorySink,
 ) -> Result<(), RunFault>
     requires name { blank.name ≡ L.name }
@@ -100,7 +101,7 @@ fn run_text<L: Ledger>(
 fn run_alone(
     alloc: Global,
     script: &Script,
-    document: u32,
+    document: DocumentId,
     sink: &mut MemorySink,
 ) -> Result<(), RunFault> {
     let Ok(mut page) = Page::new(alloc, script.version()) else {
@@ -120,7 +121,7 @@ fn expect(
     rt: &impl Abort,
     alloc: Global,
     text: &str,
-    document: u32,
+    document: DocumentId,
     number: Option<u64>,
     ending: Result<(), RunFault>,
     told: &str,
@@ -155,7 +156,15 @@ const RUNS: [Row; 6] = [
 #[test]
 fn commands_and_handlers_give_their_lines(rt: HostRuntime) -> Result<(), Fail> {
     for (text, document, number, ending, told) in RUNS {
-        expect(&rt, rt.alloc(), text, document, number, ending, told)?;
+        expect(
+            &rt,
+            rt.alloc(),
+            text,
+            DocumentId(document),
+            number,
+            ending,
+            told,
+        )?;
     }
     Ok(())
 }
@@ -182,5 +191,13 @@ fn a_limit_ends_the_run(rt: HostRuntime) -> Result<(), Fail> {
         line: 5,
         number: 256,
     });
-    expect(&rt, rt.alloc(), &text, 0, None, met, "say first\n")
+    expect(
+        &rt,
+        rt.alloc(),
+        &text,
+        DocumentId(0),
+        None,
+        met,
+        "say first\n",
+    )
 }

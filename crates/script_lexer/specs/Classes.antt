@@ -1,5 +1,4 @@
 -- The classes of bytes, as the code names them.
-use Rattle.std.specs.Prelude.{ℕ, Bool, cond, ◌&&◌, nat_le}
 use Rattle.script_model.specs.Lexing.{ByteClass as ClassOfByte, LineFeedByte, LongByte, SpaceByte, WordByte, ForbiddenByte}
 use Rattle.script_lexer.specs.declared.class.ByteClass.{ByteClass}
 use Rattle.script_lexer.specs.declared.class.ByteClass.TheVariants.{LineFeed, Long, Space, Word, Bad}
@@ -10,9 +9,3 @@ class_seen Long = LongByte
 class_seen Space = SpaceByte
 class_seen Word = WordByte
 class_seen Bad = ForbiddenByte
-
-abbrev pub return_class : Bool → ClassOfByte
-return_class feed_next = cond feed_next SpaceByte ForbiddenByte
-
-abbrev pub printed_class : ℕ → ClassOfByte
-printed_class byte = cond (nat_le 33 byte && nat_le byte 126) WordByte ForbiddenByte

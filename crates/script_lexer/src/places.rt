@@ -27,7 +27,7 @@ pub struct Line {
 pub enum LexFault {
     /// A byte that is none of 32 to 126, a tab, the line feed that ends a line, or a carriage return directly before
     /// it.
-    #[error("BadByte")]
+    #[error("line {line}, column {column}: a byte that no line may have")]
     BadByte {
         /// The byte's line.
         line: u32,
@@ -35,7 +35,7 @@ pub enum LexFault {
         column: u32,
     },
     /// A line has more bytes than it may have. It ends the text at the first byte too many, whatever byte it is.
-    #[error("LineTooLong")]
+    #[error("line {line}: more bytes than a line may have")]
     LineTooLong {
         /// The line's number.
         line: u32,

@@ -8,4 +8,6 @@ mod Spaces
 mod Impossible
 mod ReadLater
 mod ReadLaw
+pub mod LimitsMet
 pub mod Named
+pub mod Keyed

@@ -4,7 +4,8 @@ ghost use Rattle.std.specs.List.{list_all};
 ghost use Rattle.word_model.specs.Numbers.{begins_with};
 ghost use Rattle.text_io.specs.declared.kinds.LimitKind.TheVariants as limits;
 ghost use Rattle.text_io.specs.declared.kinds.Version.{Version};
-ghost use Rattle.text_io.specs.Limits.{common_limit};
+ghost use Rattle.text_io.specs.declared.kinds.LimitKind.{LimitKind};
+ghost use Rattle.text_io.specs.Limits.{common_limit, IsCommon};
 ghost use Rattle.script_model.specs.Lexing.{Row, BadByte, LongLine, line_start, ends, lex_on, lexed};
 ghost use Rattle.script_model.specs.Lines.{is_line_byte, words_of, line_with};
 ghost use Rattle.script_model.specs.Media.{is_blank};
@@ -84,6 +85,12 @@ pub fn script_limit_comes_first()
     ensures above { (text : List ℕ) → common_limit limits.Script < length text →
         reading text ≡ Err (LimitAt limits.Script (last_line (common_limit limits.Script) text)) }
     ensures within { (text : List ℕ) → length text ≤ common_limit limits.Script → reading text ≡ read_lexed (lexed text) }
+{}
+
+/// A limit that a text meets is the same in each version, so that it is known before the version is.
+#[tactic(auto, using(crate::proofs::LimitsMet::met_is_common))]
+pub fn text_meets_common_limits()
+    ensures { (text : List ℕ) (kind : LimitKind) (line : ℕ) → reading text ≡ Err (LimitAt kind line) → IsCommon kind }
 {}
 
 /// A line `end` is read only where something is open, so there is always something that it closes.

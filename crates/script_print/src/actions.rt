@@ -15,9 +15,9 @@ use crate::operands::{
 };
 use media_queries::Query;
 use px_units::{BoxKind, Percent, Point, Px, Size};
-use script_syntax::{Action, Aim, Axis, IoMaking, Operand};
+use script_syntax::{Action, Aim, IoMaking, Operand};
 use std::alloc::AllocError;
-use style_values::Declaration;
+use style_values::{Axis, Declaration};
 use text_io::{EventKind, Name};
 
 /// Appends the line of a command without a block.

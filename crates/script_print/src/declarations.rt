@@ -6,7 +6,8 @@ ghost use Rattle.script_print.specs.Spaced.{spaced};
 ghost use Rattle.script_text.specs.DeclarationText.{side_text, display_text, size_text, none_or_text, box_sizing_text, overflow_text, position_text, inset_text, property_text, value_text};
 ghost use Rattle.style_values.specs.Seen.{seen_display, seen_box_sizing, seen_overflow, seen_position, seen_sides, seen_declaration};
 
-use crate::numbers::{push_length, push_percent, push_signed, push_signed_percent};
+use crate::numbers::{push_percent, push_signed, push_signed_percent};
+use media_queries::push_length;
 use px_units::{Length, Percent, Px};
 use std::alloc::AllocError;
 use style_values::{BoxSizing, Declaration, Display, Overflow, Position, Sides};

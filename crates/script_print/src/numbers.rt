@@ -1,58 +1,12 @@
 //! Lengths, percentages and numbers, each as its shortest text.
 
-ghost use Rattle.std.specs.Prelude.{◌≡◌, ◌++◌, [], OnOk, codes};
-ghost use Rattle.word_model.specs.Numbers.{decimal};
-ghost use Rattle.media_queries.specs.LengthText.{tenths_text, hundredths_text, length_text};
+ghost use Rattle.std.specs.Prelude.{◌≡◌, ◌++◌, [], OnOk};
 ghost use Rattle.script_print.specs.Minus.{minus_text};
 ghost use Rattle.script_text.specs.NumberText.{all_places, places_text, percent_text, signed_text, signed_percent_text, number_text};
 
+use media_queries::push_length;
 use std::alloc::AllocError;
 use word_model::push_decimal;
-
-/// Appends so many tenths of a pixel.
-#[tactic(auto, using(media_queries::proofs::Appends::tenths_pushed))]
-fn push_tenths(into: &mut Vec<u8>, tenths: u128) -> Result<(), AllocError>
-    ensures { OnOk result (into.new.items ≡ into.old.items ++ tenths_text tenths) }
-{
-    push_decimal(into, tenths / 10)?;
-    into.extend_from_slice(&[b'.', b'0' + (tenths % 10) as u8, b'p', b'x'])
-}
-
-/// Appends so many hundredths of a pixel.
-#[tactic(auto, using(media_queries::proofs::Appends::hundredths_pushed))]
-fn push_hundredths(into: &mut Vec<u8>, hundredths: u128) -> Result<(), AllocError>
-    ensures { OnOk result (into.new.items ≡ into.old.items ++ hundredths_text hundredths) }
-{
-    let tenth = b'0' + (hundredths / 10 % 10) as u8;
-    let hundredth = b'0' + (hundredths % 10) as u8;
-    push_decimal(into, hundredths / 100)?;
-    into.extend_from_slice(&[b'.', tenth, hundredth, b'p', b'x'])
-}
-
-/// Appends a whole number of pixels.
-#[tactic(auto, using(media_queries::proofs::Appends::two_parts))]
-fn push_whole(into: &mut Vec<u8>, pixels: u128) -> Result<(), AllocError>
-    ensures { OnOk result (into.new.items ≡ into.old.items ++ (decimal pixels ++ codes "px")) }
-{
-    push_decimal(into, pixels)?;
-    into.extend_from_slice(b"px")
-}
-
-/// Appends a length in units of 1/64 CSS pixel.
-#[tactic(auto, unfolding(media_queries::specs::LengthText::length_text))]
-pub fn push_length(into: &mut Vec<u8>, length: u64) -> Result<(), AllocError>
-    ensures { OnOk result (into.new.items ≡ into.old.items ++ length_text length) }
-{
-    let units = u128::from(length);
-    if units % 64 == 0 {
-        return push_whole(into, units / 64);
-    }
-    let tenths = (units * 10 + 63) / 64;
-    if tenths * 64 / 10 == units {
-        return push_tenths(into, tenths);
-    }
-    push_hundredths(into, (units * 100 + 63) / 64)
-}
 
 /// Appends the sign of a negative number.
 fn push_minus(into: &mut Vec<u8>, number: i64) -> Result<(), AllocError>

@@ -5,7 +5,8 @@ ghost use Rattle.media_queries.specs.QueryText.{list_text};
 ghost use Rattle.script_print.specs.OperandParts.{part_of};
 ghost use Rattle.script_print.specs.Spaced.{spaced};
 ghost use Rattle.script_model.specs.MarginText.{parts_of};
-ghost use Rattle.script_syntax.specs.Seen.{operand_of, aim_of, dimension_of};
+ghost use Rattle.script_syntax.specs.Seen.{operand_of, aim_of};
+ghost use Rattle.style_values.specs.Seen.{seen_axis};
 ghost use Rattle.script_text.specs.NumberText.{percent_text, signed_text, number_text};
 ghost use Rattle.script_text.specs.Parts.{all_words, scroll_words};
 ghost use Rattle.script_text.specs.WordText.{operand_text, aim_text, box_text, dimension_text, dash_or};
@@ -14,12 +15,12 @@ ghost use Rattle.word_model.specs.Numbers.{decimal};
 ghost use Rattle.media_queries.specs.LengthText.{length_text};
 
 use crate::declarations::push_declaration;
-use crate::numbers::{push_length, push_number, push_percent, push_signed};
-use media_queries::Query;
+use crate::numbers::{push_number, push_percent, push_signed};
+use media_queries::{Query, push_length};
 use px_units::{BoxKind, Percent};
-use script_syntax::{Aim, Axis, IoMaking, MarginText, NumberList, Operand};
+use script_syntax::{Aim, IoMaking, MarginText, NumberList, Operand};
 use std::alloc::AllocError;
-use style_values::Declaration;
+use style_values::{Axis, Declaration};
 use text_io::{EventKind, Name};
 use word_model::push_decimal;
 
@@ -161,7 +162,7 @@ fn box_text(observed: BoxKind) -> &'static [u8]
 }
 
 fn dimension_text(axis: Axis) -> &'static [u8]
-    ensures { result.now ≡ dimension_text (dimension_of axis) }
+    ensures { result.now ≡ dimension_text (seen_axis axis) }
 {
     match axis {
         Axis::Width => b"width",

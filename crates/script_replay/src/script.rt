@@ -2,7 +2,7 @@
 
 ghost use Rattle.std.specs.Prelude.{◌≡◌, ◌&&◌, Ok, Err, is_some, true, false, IfSome};
 ghost use Rattle.script_model.specs.Reading.{Reading, reading};
-ghost use Rattle.script_syntax.specs.Parsing.{Parses};
+ghost use Rattle.script_syntax.specs.Parsing.{HasCommonLimit, Parses};
 ghost use Rattle.page_model.specs.Outcome.{opening_world, outcome_read};
 ghost use Rattle.run_replies.specs.Answers.{Tells};
 ghost use Rattle.run_replies.specs.Replies.{outcome_reply};
@@ -29,6 +29,7 @@ use trace_runs::RunFault;
 
 // A text that is no script.
 fn refuse_text<K: Sink>(alloc: Global, fault: ParseFault, sink: &mut K) -> Status
+    requires { HasCommonLimit fault }
     ensures tells { (job : Job) (read : Reading) → Parses (Err fault) read → Tells result (read_reply job read)
         (K.taken sink.old) (K.taken sink.new) (K.faults sink.old) (K.faults sink.new) }
     ensures done { is_done result ≡ false }

@@ -2,7 +2,7 @@
 
 ghost use Rattle.std.specs.Prelude.{◌≡◌, ◌++◌, ◌-◌, [], length, take, IfErr, IfOk, OnErr, OnOk};
 ghost use Rattle.script_model.specs.Reading.{reading};
-ghost use Rattle.script_syntax.specs.Parsing.{Parses};
+ghost use Rattle.script_syntax.specs.Parsing.{HasCommonLimit, Parses};
 ghost use Rattle.script_source.specs.Sources.{IsUnread, ReadTo};
 
 use run_replies::Status;
@@ -72,7 +72,8 @@ impl ScriptText {
     /// # Errors
     /// `Syntax` and `ScriptLimit` exactly at the first fault or limit of the bytes that came; `Memory` for want of memory.
     pub fn parse(self, alloc: Global) -> Result<Script, ParseFault>
-        ensures { Parses result (reading self) }
+        ensures value { Parses result (reading self) }
+        ensures limit { IfErr result HasCommonLimit }
     {
         let Ok(text) = self.lexer.finish() else {
             return Err(ParseFault::Memory);

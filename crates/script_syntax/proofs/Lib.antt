@@ -5,8 +5,10 @@ pub mod Handlers
 pub mod Joined
 pub mod LastWords
 pub mod Lookups
+pub mod NextWords
 pub mod Opened
 pub mod Queries
+pub mod Refusals
 pub mod Reversed
 pub mod Walked
 pub mod WholeTexts

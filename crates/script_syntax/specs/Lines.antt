@@ -1,14 +1,12 @@
 -- What readers of a line's words answer against the definition; want of memory is free.
-use Rattle.std.specs.Prelude.{◌≡◌, ℕ, ◌-◌, ◌<◌, ◌≤◌, Bool, true, false, List, [], ◌∷◌, length, drop, map, Option, Some, None, Result, Ok, Err}
+use Rattle.std.specs.Prelude.{◌≡◌, ℕ, ◌-◌, ◌<◌, ◌≤◌, Bool, true, false, cond, List, [], ◌∷◌, length, drop, map, Option, Some, None, Result, Ok, Err, bytes_eq}
 use Rattle.std.specs.List.{All}
 use Rattle.std.specs.Borrow.{Bor}
-use Rattle.text_io.specs.declared.kinds.Version.TheVariants.{Second}
 use Rattle.script_lexer.specs.declared.places.Span.{Span}
 use Rattle.script_lexer.specs.Texts.{word_seen, InLine}
 use Rattle.script_model.specs.Lexing.{Row}
 use Rattle.script_model.specs.Lexing as model
-use Rattle.script_model.specs.Readers.{◌>>=◌}
-use Rattle.script_model.specs.Forms.{words_before, words_from, margin_as, scroll_in}
+use Rattle.script_model.specs.Forms.{words_before, words_from}
 use Rattle.script_syntax.specs.declared.words.Word.{Word}
 use Rattle.script_syntax.specs.Words.{word_of}
 use Rattle.script_syntax.specs.declared.faults.LineFault.{LineFault}
@@ -40,10 +38,10 @@ NextBefore stop (Some text) old new =
     × (new ≡ record old { left = new.left })
     × (length new.left < length old.left)
 
--- the word `scroll` is taken, and a margin is to follow, or another word or none stands next
-abbrev pub ScrollBegins : Bool → Row → Row → Type 0
-ScrollBegins true old new = scroll_in old.left old ≡ margin_as Second new >>= λ margin. Ok (Some margin.0, margin.1)
-ScrollBegins false old new = (scroll_in old.left old ≡ Ok (None, old)) × (new ≡ old)
+-- whether this word stands next, and the words behind it
+abbrev pub taken_in : List ℕ → List model.Word → Row → Bool × Row
+taken_in word [] row = (false, row)
+taken_in word (w ∷ ws) row = cond (bytes_eq w.text word) (true, record row { left = ws }) (false, row)
 
 -- the column of the next word, and the text from there to the end of the line's last one
 abbrev pub rest_in : List model.Word → Row → Result (ℕ × List ℕ × Row) ℕ

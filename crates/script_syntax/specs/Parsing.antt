@@ -1,5 +1,6 @@
 -- What a parser answers against the definition's reading; want of memory is free.
 use Rattle.std.specs.Prelude.{◌≡◌, ◌+◌, ◌<◌, ◌^◌, None, Result, Ok, Err}
+use Rattle.text_io.specs.Limits.{IsCommon}
 use Rattle.script_lexer.specs.Texts.{TextParts}
 use Rattle.script_model.specs.Syntax.{Script}
 use Rattle.script_model.specs.Reading.{Reading, Refusal, SyntaxAt, LimitAt}
@@ -16,6 +17,12 @@ Answers seen (Err Memory) reading = Unit {0}
 -- a script is the text's reading, a fault or limit its refusal
 abbrev pub Parses : Result Script ParseFault → Reading → Type 0
 Parses result reading = Answers (λ script. script) result reading
+
+-- a limit of a text is the same in each version
+abbrev pub HasCommonLimit : ParseFault → Type 0
+HasCommonLimit (Syntax line column) = Unit {0}
+HasCommonLimit (MeetsLimit kind line) = IsCommon kind
+HasCommonLimit Memory = Unit {0}
 
 -- this fault or limit is the refusal
 abbrev pub IsRefused : ParseFault → Refusal → Type 0

@@ -1,15 +1,13 @@
 -- What the types of scripts stand for in the definitions. Lengths are seen by what they are without a sign;
 -- specs/Allowed.antt says which are never negative.
 use Rattle.std.specs.Prelude.{ℕ, ◌+◌, Bool, true, false, List, [], ◌∷◌, option_map, unsigned_abs}
-use Rattle.style_values.specs.Seen.{seen_declaration}
+use Rattle.style_values.specs.Seen.{seen_axis, seen_declaration}
 use Rattle.script_model.specs.Syntax as model
 use Rattle.script_model.specs.Scripts.{NamedBlock}
 use Rattle.script_syntax.specs.declared.operands.Operand.{Operand}
 use Rattle.script_syntax.specs.declared.operands.Operand.TheVariants as operand
 use Rattle.script_syntax.specs.declared.operands.Aim.{Aim}
 use Rattle.script_syntax.specs.declared.operands.Aim.TheVariants as aim
-use Rattle.script_syntax.specs.declared.operands.Axis.{Axis}
-use Rattle.script_syntax.specs.declared.operands.Axis.TheVariants as axis
 use Rattle.script_syntax.specs.declared.operands.IoMaking.{IoMaking}
 use Rattle.script_syntax.specs.declared.operands.Test.{Test}
 use Rattle.script_syntax.specs.declared.operands.Test.TheVariants as test
@@ -30,10 +28,6 @@ operand_of operand.Target = model.Target
 abbrev pub aim_of : Aim → model.Aim
 aim_of (aim.Plain operand) = model.PlainAim (operand_of operand)
 aim_of (aim.Window document) = model.WindowAim document
-
-abbrev pub dimension_of : Axis → model.Dimension
-dimension_of axis.Width = model.WidthDimension
-dimension_of axis.Height = model.HeightDimension
 
 abbrev pub making_of : IoMaking → model.ObserverMaking
 making_of making = record {
@@ -68,7 +62,7 @@ action_of (action.Before parent node sibling) =
     model.Before (operand_of parent) (operand_of node) (operand_of sibling)
 action_of (action.Remove node) = model.Remove (operand_of node)
 action_of (action.Set node declaration) = model.SetStyle (operand_of node) (seen_declaration declaration)
-action_of (action.Grow node axis by) = model.Grow (operand_of node) (dimension_of axis) by.0
+action_of (action.Grow node axis by) = model.Grow (operand_of node) (seen_axis axis) by.0
 action_of (action.Load node size) = model.Load (operand_of node) (unsigned_abs size.width) (unsigned_abs size.height)
 action_of (action.Ro name document handler) = model.MakeResizeObserver name document handler
 action_of (action.RoObserve observer node observed) = model.ObserveResize observer (operand_of node) observed

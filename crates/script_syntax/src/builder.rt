@@ -23,7 +23,7 @@ pub struct Builder {
     // Innermost last.
     frames: Vec<Frame>,
     items: Vec<Item>,
-    // Those of the handlers, in their order. A look-up is by a hash, however many there are.
+    // The names of the handlers, in order. It is a set, so that a look-up is no slower among many.
     names: IndexSet<Name>,
 }
 
@@ -61,7 +61,7 @@ impl Builder {
     ghost use Rattle.script_syntax.specs.Frames.{OpeningAllowed};
     ghost use Rattle.script_syntax.specs.Statements.{statement_of, StatementAllowed, IsFreshAmong};
 
-    /// Before the first line behind the one with the version.
+    /// Nothing is read so far but the line with the version.
     pub fn new(alloc: Global, version: Version) -> Builder
         ensures { result ≡ model.nothing_read version }
     {

@@ -3,11 +3,11 @@
 ghost use Rattle.std.specs.Prelude.{◌≡◌};
 ghost use Rattle.std.specs.List.{All};
 
-use crate::operands::{Aim, Axis, Condition, IoMaking, Operand};
+use crate::operands::{Aim, Condition, IoMaking, Operand};
 use media_queries::Query;
 use px_units::{BoxKind, Percent, Point, Px, Size};
 use std::marker::Model;
-use style_values::Declaration;
+use style_values::{Axis, Declaration};
 use text_io::{EventKind, Name};
 
 /// What a command without a block does. Operands have the names of the definition and stand in the order of the command's
@@ -162,7 +162,7 @@ pub enum Action {
     Read(Operand),
 }
 
-/// What a command of a block or handler is, and one that stands outside and isn't a `tick`.
+/// A command without a block, or a block with its commands. `tick` is neither.
 #[cycle(commands)]
 #[derive(Drop)]
 pub enum What {

@@ -13,12 +13,12 @@ pub enum ParseFault {
     /// A line isn't in the grammar. The column is that of the first byte that no line may have, or of the first word that
     /// doesn't fit, or of the first word too many, or the one after the line's last word where a word is missing. Where the
     /// text ends with something open or without its first line, this is column 1 of the line after the last one.
-    #[error("Syntax")]
+    #[error("line {line}, column {column}: not in the grammar")]
     Syntax { line: u32, column: u32 },
     /// A limit is met in this line: one of `Script`, `Line`, `Handlers` and `Nesting`.
-    #[error("ScriptLimit")]
+    #[error("line {line}: the limit of {} is met", .kind.text())]
     ScriptLimit { kind: LimitKind, line: u32 },
-    #[error("Memory")]
+    #[error("out of memory")]
     Memory,
 }
 

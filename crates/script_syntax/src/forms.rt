@@ -5,23 +5,23 @@ ghost use Rattle.script_model.specs.Forms.{part_as, declaration_as, margin_as, n
 ghost use Rattle.script_model.specs.Words.{node_of, aim_of as aim_read};
 ghost use Rattle.script_model.specs.Properties.{property_of};
 ghost use Rattle.style_values.specs.Ranges.{IsAllowed};
-ghost use Rattle.style_values.specs.Seen.{seen_declaration};
+ghost use Rattle.style_values.specs.Seen.{seen_axis, seen_declaration};
 ghost use Rattle.style_values.specs.Versions.{reads};
 ghost use Rattle.script_syntax.specs.Allowed.{IsUnits, IsSignedUnits, IsPercent, IsTime};
 ghost use Rattle.script_syntax.specs.Lines.{Gives};
-ghost use Rattle.script_syntax.specs.Seen.{operand_of, aim_of, dimension_of};
+ghost use Rattle.script_syntax.specs.Seen.{operand_of, aim_of};
 
 use crate::faults::LineFault;
-use crate::operands::{Aim, Axis, Operand};
+use crate::operands::{Aim, Operand};
 use crate::tables;
 use crate::texts::{MarginText, NumberList};
 use crate::words::{Word, Words};
 use media_queries::{Query, QueryFault};
 use px_units::{BoxKind, Percent, Px};
 use std::alloc::Global;
-use style_values::{Declaration, first_version};
+use style_values::{Axis, Declaration, first_version};
 use text_io::{EventKind, Name, Version};
-use word_model::{length, number, percent, signed_length, whole};
+use word_model::{length, percent, signed_length, whole};
 
 /// The node that a word names.
 #[tactic(auto, unfolding(script_model::specs::Words::node_of))]
@@ -47,7 +47,7 @@ fn aim_named(text: &[u8]) -> Option<Aim>
     node_named(text).map(Aim::Plain)
 }
 
-/// Whether a version has what this is the first version of.
+/// Whether a version has what `first` is the first version to have, None for what none has.
 fn has(version: Version, first: Option<Version>) -> bool
     ensures { result ≡ reads version first }
 {
@@ -77,12 +77,7 @@ impl Words<'_> {
         ensures { Gives (λ name. (name, self.new)) result (part_as NameForm self.old) }
     {
         let word = self.next()?;
-        match Name::read(word.text) {
-            Some(name) => Ok(name),
-            None => Err(LineFault::At {
-                column: word.column,
-            }),
-        }
+        Name::read(word.text).ok_or(word.fault())
     }
 
     /// NODE
@@ -91,12 +86,7 @@ impl Words<'_> {
         ensures { Gives (λ node. (operand_of node, self.new)) result (part_as NodeForm self.old) }
     {
         let word = self.next()?;
-        match node_named(word.text) {
-            Some(node) => Ok(node),
-            None => Err(LineFault::At {
-                column: word.column,
-            }),
-        }
+        node_named(word.text).ok_or(word.fault())
     }
 
     /// A node, a document or a query list by its name, or `@` and the name of a document.
@@ -105,12 +95,7 @@ impl Words<'_> {
         ensures { Gives (λ aim. (aim_of aim, self.new)) result (part_as AimForm self.old) }
     {
         let word = self.next()?;
-        match aim_named(word.text) {
-            Some(aim) => Ok(aim),
-            None => Err(LineFault::At {
-                column: word.column,
-            }),
-        }
+        aim_named(word.text).ok_or(word.fault())
     }
 
     /// The name of a handler, or `-` for none.
@@ -122,12 +107,8 @@ impl Words<'_> {
         if word.text == b"-".as_slice() {
             return Ok(None);
         }
-        match Name::read(word.text) {
-            Some(name) => Ok(Some(name)),
-            None => Err(LineFault::At {
-                column: word.column,
-            }),
-        }
+        let name = Name::read(word.text).ok_or(word.fault())?;
+        Ok(Some(name))
     }
 
     /// NODE, or `-` for the implicit root.
@@ -139,12 +120,8 @@ impl Words<'_> {
         if word.text == b"-".as_slice() {
             return Ok(None);
         }
-        match node_named(word.text) {
-            Some(node) => Ok(Some(node)),
-            None => Err(LineFault::At {
-                column: word.column,
-            }),
-        }
+        let node = node_named(word.text).ok_or(word.fault())?;
+        Ok(Some(node))
     }
 
     /// LENGTH
@@ -154,12 +131,8 @@ impl Words<'_> {
         ensures allowed { IfOk result (λ px. IsUnits px.0) }
     {
         let word = self.next()?;
-        match length(word.text) {
-            Some(units) => Ok(Px(units as i64)),
-            None => Err(LineFault::At {
-                column: word.column,
-            }),
-        }
+        let units = length(word.text).ok_or(word.fault())?;
+        Ok(Px(units as i64))
     }
 
     /// SIGNED
@@ -169,12 +142,8 @@ impl Words<'_> {
         ensures allowed { IfOk result (λ px. IsSignedUnits px.0) }
     {
         let word = self.next()?;
-        match signed_length(word.text) {
-            Some(units) => Ok(Px(units)),
-            None => Err(LineFault::At {
-                column: word.column,
-            }),
-        }
+        let units = signed_length(word.text).ok_or(word.fault())?;
+        Ok(Px(units))
     }
 
     /// PERCENT
@@ -184,12 +153,8 @@ impl Words<'_> {
         ensures allowed { IfOk result (λ percent. IsPercent percent.0) }
     {
         let word = self.next()?;
-        match percent(word.text) {
-            Some(hundredths) => Ok(Percent(hundredths as i32)),
-            None => Err(LineFault::At {
-                column: word.column,
-            }),
-        }
+        let hundredths = percent(word.text).ok_or(word.fault())?;
+        Ok(Percent(hundredths as i32))
     }
 
     /// WHOLE
@@ -199,26 +164,16 @@ impl Words<'_> {
         ensures allowed { IfOk result (λ number. IsTime number) }
     {
         let word = self.next()?;
-        match whole(word.text) {
-            Some(number) => Ok(number),
-            None => Err(LineFault::At {
-                column: word.column,
-            }),
-        }
+        whole(word.text).ok_or(word.fault())
     }
 
     /// `resize`, `scroll`, `error` or `change`
-    #[tactic(auto, unfolding(script_model::specs::Forms::part_as))]
+    #[tactic(auto, unfolding(script_model::specs::Forms::part_as), using(script_model::proofs::Keyed::event_named))]
     pub fn event(&mut self) -> Result<EventKind, LineFault>
         ensures { Gives (λ event. (event, self.new)) result (part_as EventForm self.old) }
     {
         let word = self.next()?;
-        match tables::event(word.text) {
-            Some(event) => Ok(event),
-            None => Err(LineFault::At {
-                column: word.column,
-            }),
-        }
+        EventKind::named(word.text).ok_or(word.fault())
     }
 
     /// `content` or `border`, in the second version also `device`
@@ -227,26 +182,16 @@ impl Words<'_> {
         ensures { Gives (λ kind. (kind, self.new)) result (part_as (BoxForm version) self.old) }
     {
         let word = self.next()?;
-        match tables::box_kind(version, word.text) {
-            Some(kind) => Ok(kind),
-            None => Err(LineFault::At {
-                column: word.column,
-            }),
-        }
+        tables::box_kind(version, word.text).ok_or(word.fault())
     }
 
     /// `width` or `height`
     #[tactic(auto, unfolding(script_model::specs::Forms::part_as))]
     pub fn axis(&mut self) -> Result<Axis, LineFault>
-        ensures { Gives (λ axis. (dimension_of axis, self.new)) result (part_as DimensionForm self.old) }
+        ensures { Gives (λ axis. (seen_axis axis, self.new)) result (part_as DimensionForm self.old) }
     {
         let word = self.next()?;
-        match tables::axis(word.text) {
-            Some(axis) => Ok(axis),
-            None => Err(LineFault::At {
-                column: word.column,
-            }),
-        }
+        tables::axis(word.text).ok_or(word.fault())
     }
 
     /// A property that scripts of this version have, and a value that it has.
@@ -257,16 +202,12 @@ impl Words<'_> {
     {
         let property = self.next()?;
         if !is_property(version, property.text) {
-            return Err(LineFault::At {
-                column: property.column,
-            });
+            return Err(property.fault());
         }
         let value = self.next()?;
         match Declaration::read(property.text, value.text) {
             Ok(declaration) => Ok(declaration),
-            Err(_) => Err(LineFault::At {
-                column: value.column,
-            }),
+            Err(_) => Err(value.fault()),
         }
     }
 
@@ -279,8 +220,6 @@ impl Words<'_> {
         if next.text == word {
             return Ok(());
         }
-        Err(LineFault::At {
-            column: next.column,
-        })
+        Err(next.fault())
     }
 }

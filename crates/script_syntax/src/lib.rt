@@ -20,7 +20,7 @@ mod words;
 
 pub use commands::{Action, Body, Command, CommandList, Handler, Item, What};
 pub use faults::ParseFault;
-pub use operands::{Aim, Axis, Condition, IoMaking, Operand, Test};
+pub use operands::{Aim, Condition, IoMaking, Operand, Test};
 pub use parser::parse;
 pub use script::Script;
 pub use texts::{MarginText, NumberList};

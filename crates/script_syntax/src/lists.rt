@@ -28,14 +28,14 @@ impl Words<'_> {
     }
 
     /// `scroll` and the words of a margin, where that word stands next, in scripts of the second version.
-    #[tactic(auto, unfolding(script_model::specs::Forms::scroll_as))]
+    #[tactic(auto, unfolding(script_model::specs::Forms::scroll_as), using(crate::proofs::NextWords::scroll_taken, crate::proofs::NextWords::scroll_absent))]
     fn scroll(&mut self, alloc: Global, version: Version) -> Result<Option<MarginText>, LineFault>
         ensures { Gives (λ text. (text, self.new)) result (scroll_as version self.old) }
     {
         match version {
             Version::First => Ok(None),
             Version::Second => {
-                if !self.begins_scroll() {
+                if !self.take_if(b"scroll") {
                     return Ok(None);
                 }
                 let margin = self.margin(alloc, Version::Second)?;
@@ -67,11 +67,7 @@ impl Words<'_> {
     {
         let mut numbers = Vec::new(alloc);
         while let Some(word) = self.pop() {
-            let Some(number) = number(word.text) else {
-                return Err(LineFault::At {
-                    column: word.column,
-                });
-            };
+            let number = number(word.text).ok_or(word.fault())?;
             numbers.push(number)?;
         }
         Ok(NumberList::new(numbers))

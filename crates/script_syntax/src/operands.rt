@@ -22,13 +22,6 @@ pub enum Aim {
     Window(Name),
 }
 
-/// A dimension of a box.
-#[derive(Clone, Copy, Debug, PartialEq, Eq)]
-pub enum Axis {
-    Width,
-    Height,
-}
-
 /// The operands of `io`, which makes an intersection observer.
 #[derive(Drop)]
 pub struct IoMaking {
@@ -60,7 +53,7 @@ pub enum Test {
     Seen,
 }
 
-/// A test, turned round behind `not`.
+/// A test, negated behind `not`.
 #[derive(Clone, Copy, Debug, PartialEq, Eq)]
 pub struct Condition {
     pub negated: bool,

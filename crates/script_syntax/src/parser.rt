@@ -1,6 +1,6 @@
 //! A text's lines and words as a script.
 
-ghost use Rattle.std.specs.Prelude.{◌≡◌, ◌≤◌, map, length, count_by, ◌==◌, IfOk};
+ghost use Rattle.std.specs.Prelude.{◌≡◌, ◌≤◌, map, length, count_by, ◌==◌, IfOk, IfErr};
 ghost use Rattle.std.specs.List.{All};
 ghost use Rattle.text_io.specs.declared.kinds.LimitKind.TheVariants as limits;
 ghost use Rattle.text_io.specs.Limits.{common_limit};
@@ -9,7 +9,7 @@ ghost use Rattle.script_model.specs.Lexing.{lexed};
 ghost use Rattle.script_model.specs.Reading as model;
 ghost use Rattle.script_model.specs.Reading.{reading, read_lexed, refused_at, nothing_read};
 ghost use Rattle.script_syntax.specs.Allowed.{ItemAllowed};
-ghost use Rattle.script_syntax.specs.Parsing.{Parses, Answers, IsRefused, EndsSoon};
+ghost use Rattle.script_syntax.specs.Parsing.{Parses, Answers, HasCommonLimit, IsRefused, EndsSoon};
 ghost use Rattle.script_syntax.specs.Seen.{item_of};
 
 use crate::builder::Builder;
@@ -28,10 +28,11 @@ use text_io::{LimitKind, Version};
 /// `Syntax` and `ScriptLimit` exactly where the text is no script, the first in the text. The limit `Script` is met
 /// before any line is looked at, where the text has more than 16,777,216 bytes; its line is 1 more than the number of line
 /// feeds in that many bytes. `Memory` where no memory is left.
-#[tactic(auto, unfolding(script_model::specs::Reading::reading), using(crate::proofs::Finishes::ends_soon))]
+#[tactic(auto, unfolding(script_model::specs::Reading::reading), using(crate::proofs::Finishes::ends_soon, crate::proofs::Refusals::stopped_at_common))]
 pub fn parse(alloc: Global, text: &Text) -> Result<Script, ParseFault>
     requires { text_seen text.now ≡ lexed text.now.bytes }
-    ensures { Parses result (reading text.now.bytes) }
+    ensures value { Parses result (reading text.now.bytes) }
+    ensures limit { IfErr result HasCommonLimit }
 {
     let bytes = text.bytes();
     if bytes.len() as u64 > LimitKind::Script.common() {

@@ -86,12 +86,7 @@ fn head(version: Version, outside: bool, words: &mut Words<'_>) -> Result<Head, 
     ensures { Gives (λ head. (head_of version head, words.new)) result (word_as (model.head_of version outside) words.old) }
 {
     let word = words.next()?;
-    match permitted_head(version, outside, word.text) {
-        Some(head) => Ok(head),
-        None => Err(LineFault::At {
-            column: word.column,
-        }),
-    }
+    permitted_head(version, outside, word.text).ok_or(word.fault())
 }
 
 /// What follows the first word of a line.
@@ -141,11 +136,7 @@ fn handler(handlers: &IndexSet<Name>, words: &mut Words<'_>) -> Result<Statement
     ensures fresh { IfOk result (λ statement. IsFreshAmong (reverse handlers.now.keys) statement) }
 {
     let word = words.next()?;
-    let Some(name) = fresh_name(handlers, word.text) else {
-        return Err(LineFault::At {
-            column: word.column,
-        });
-    };
+    let name = fresh_name(handlers, word.text).ok_or(word.fault())?;
     words.end()?;
     Ok(Statement::OpensHandler(name))
 }
@@ -164,12 +155,12 @@ fn fresh_name(handlers: &IndexSet<Name>, word: &[u8]) -> Option<Name>
 }
 
 /// `not`, if it stands there, and a test.
-#[tactic(auto, unfolding(script_model::specs::Statements::condition_as))]
+#[tactic(auto, unfolding(script_model::specs::Statements::condition_as), using(crate::proofs::NextWords::negation_taken))]
 fn condition(words: &mut Words<'_>) -> Result<Condition, LineFault>
     ensures value { Gives condition_of result (model.condition_as words.old) }
     ensures allowed { IfOk result (λ condition. TestAllowed condition.asks) }
 {
-    let negated = words.negation();
+    let negated = words.take_if(b"not");
     let shape = shape(words)?;
     let asks = asked(shape, words)?;
     Ok(Condition { negated, asks })
@@ -180,12 +171,7 @@ fn shape(words: &mut Words<'_>) -> Result<Shape, LineFault>
     ensures { Gives (λ shape. (shape_of shape, words.new)) result (word_as (lookup tests) words.old) }
 {
     let word = words.next()?;
-    match tables::test(word.text) {
-        Some(shape) => Ok(shape),
-        None => Err(LineFault::At {
-            column: word.column,
-        }),
-    }
+    tables::test(word.text).ok_or(word.fault())
 }
 
 /// The test whose operands these words are, all of them.
@@ -236,15 +222,10 @@ pub fn version(words: &mut Words<'_>) -> Result<Version, LineFault>
 }
 
 /// The word for a version.
-#[tactic(auto, unfolding(script_model::specs::Forms::word_as))]
+#[tactic(auto, unfolding(script_model::specs::Forms::word_as), using(script_model::proofs::Keyed::version_named))]
 fn version_word(words: &mut Words<'_>) -> Result<Version, LineFault>
     ensures { Gives (λ version. (version, words.new)) result (word_as (lookup versions) words.old) }
 {
     let word = words.next()?;
-    match tables::version(word.text) {
-        Some(version) => Ok(version),
-        None => Err(LineFault::At {
-            column: word.column,
-        }),
-    }
+    Version::named(word.text).ok_or(word.fault())
 }

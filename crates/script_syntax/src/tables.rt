@@ -1,25 +1,18 @@
 //! Fixed words and what each stands for.
 
-ghost use Rattle.std.specs.Prelude.{◌≡◌, map, option_map};
+ghost use Rattle.std.specs.Prelude.{◌≡◌, option_map};
 ghost use Rattle.text_io.specs.declared.kinds.Version.{Version};
 ghost use Rattle.text_io.specs.declared.kinds.Version.TheVariants.{Second};
-ghost use Rattle.script_model.specs.Keywords.{keyword, lookup};
-ghost use Rattle.script_model.specs.Words.{events, boxes, dimensions, versions};
+ghost use Rattle.script_model.specs.Keywords.{lookup};
+ghost use Rattle.script_model.specs.Words.{boxes, dimensions};
 ghost use Rattle.script_model.specs.Commands.{tests, heads, heads_in};
-ghost use Rattle.script_syntax.specs.Seen.{dimension_of};
+ghost use Rattle.style_values.specs.Seen.{seen_axis};
 ghost use Rattle.script_syntax.specs.Heads.{head_of, shape_of};
 
 use crate::heads::{Head, Shape, Verb};
-use crate::operands::Axis;
 use px_units::BoxKind;
-use text_io::{EventKind, Version};
-
-const EVENTS: [(&[u8], EventKind); 4] = [
-    (b"resize", EventKind::Resize),
-    (b"scroll", EventKind::Scroll),
-    (b"error", EventKind::Error),
-    (b"change", EventKind::Change),
-];
+use style_values::{Axis, lookup};
+use text_io::Version;
 
 // Those before the last one are the boxes of the first version.
 const BOXES: [(&[u8], BoxKind); 3] = [
@@ -27,8 +20,6 @@ const BOXES: [(&[u8], BoxKind); 3] = [
     (b"border", BoxKind::Border),
     (b"device", BoxKind::Device),
 ];
-
-const VERSIONS: [(&[u8], Version); 2] = [(b"1", Version::First), (b"2", Version::Second)];
 
 const AXES: [(&[u8], Axis); 2] = [(b"width", Axis::Width), (b"height", Axis::Height)];
 
@@ -80,63 +71,35 @@ const HEADS: [(&[u8], Head); 36] = [
     (b"end", Head::End),
 ];
 
-/// What the word stands for in a table of fixed words, none where it isn't there.
-#[tactic(auto, unfolding(script_model::specs::Keywords::lookup))]
-fn find<T: Copy>(mut table: &[(&[u8], T)], word: &[u8]) -> Option<T>
-    ensures { result ≡ lookup (map (λ row. keyword row.0.now row.1) table.entry.now) word.now }
-{
-    while let [row, rest @ ..] = table {
-        if word == row.0 {
-            return Some(row.1);
-        }
-        table = rest;
-    }
-    None
-}
-
-/// The event that this word names.
-pub fn event(word: &[u8]) -> Option<EventKind>
-    ensures { result ≡ lookup events word.now }
-{
-    find(&EVENTS, word)
-}
-
-/// The version that this word names.
-pub fn version(word: &[u8]) -> Option<Version>
-    ensures { result ≡ lookup versions word.now }
-{
-    find(&VERSIONS, word)
-}
-
 /// The box that this word names in scripts of this version.
 pub fn box_kind(version: Version, word: &[u8]) -> Option<BoxKind>
     ensures { result ≡ lookup (boxes version) word.now }
 {
     match version {
-        Version::First => find(&BOXES[..2], word),
-        Version::Second => find(&BOXES, word),
+        Version::First => lookup(&BOXES[..2], word),
+        Version::Second => lookup(&BOXES, word),
     }
 }
 
 /// The dimension that this word names.
 pub fn axis(word: &[u8]) -> Option<Axis>
-    ensures { option_map dimension_of result ≡ lookup dimensions word.now }
+    ensures { option_map seen_axis result ≡ lookup dimensions word.now }
 {
-    find(&AXES, word)
+    lookup(&AXES, word)
 }
 
 /// The test that this word begins.
 pub fn test(word: &[u8]) -> Option<Shape>
     ensures { option_map shape_of result ≡ lookup tests word.now }
 {
-    find(&TESTS, word)
+    lookup(&TESTS, word)
 }
 
 /// What this word begins as the first of a line, in scripts of either version.
 fn head_of_both(word: &[u8]) -> Option<Head>
     ensures { (version : Version) → option_map (head_of version) result ≡ lookup (heads version) word.now }
 {
-    find(&HEADS, word)
+    lookup(&HEADS, word)
 }
 
 /// What this word begins as the first of a line, in scripts of the second version.

@@ -3,8 +3,7 @@
 ghost use Rattle.std.specs.Prelude.{◌≡◌, ◌≤◌, length, IfOk, IfErr};
 ghost use Rattle.script_lexer.specs.Texts.{line_seen, LineFits};
 ghost use Rattle.script_model.specs.Forms.{next_of, none_left, ends_margin as ends_margin_at};
-ghost use Rattle.script_model.specs.Statements.{negation_in};
-ghost use Rattle.script_syntax.specs.Lines.{Gives, Popped, NextBefore, ScrollBegins, rest_of};
+ghost use Rattle.script_syntax.specs.Lines.{Gives, Popped, NextBefore, taken_in, rest_of};
 
 use crate::faults::LineFault;
 use script_lexer::{Line, Span, Text};
@@ -16,6 +15,17 @@ use text_io::Version;
 pub struct Word<'a> {
     pub column: u32,
     pub text: &'a [u8],
+}
+
+impl Word<'_> {
+    /// The fault that it is the first word that doesn't fit.
+    pub fn fault(&self) -> LineFault
+        ensures { result ≡ LineFault.At self.now.column }
+    {
+        LineFault::At {
+            column: self.column,
+        }
+    }
 }
 
 /// Whether a margin ends before this word, in scripts of this version.
@@ -85,18 +95,12 @@ impl<'a> Words<'a> {
     }
 
     /// The next word. The fault is that there is none.
-    #[tactic(auto, unfolding(script_model::specs::Forms::next_of))]
+    #[tactic(auto, using(crate::proofs::NextWords::next_taken, crate::proofs::NextWords::next_missing))]
     pub fn next(&mut self) -> Result<Word<'a>, LineFault>
         ensures { Gives (λ word. (word_of word, self.new)) result (next_of self.old) }
     {
-        let [span, rest @ ..] = self.left else {
-            return Err(LineFault::At { column: self.after });
-        };
-        self.left = rest;
-        Ok(Word {
-            column: (span.from - self.start + 1) as u32,
-            text: &self.bytes[span.from..span.to],
-        })
+        let missing = LineFault::At { column: self.after };
+        self.pop().ok_or(missing)
     }
 
     /// No word is left. The fault is at the first one that is.
@@ -142,30 +146,14 @@ impl<'a> Words<'a> {
         Some(text)
     }
 
-    /// Whether the next word is `scroll`, which is taken then.
-    #[tactic(auto, unfolding(script_model::specs::Forms::scroll_in))]
-    pub fn begins_scroll(&mut self) -> bool
-        ensures { ScrollBegins result self.old self.new }
+    /// Whether the next word is this one, which is taken then.
+    pub fn take_if(&mut self, word: &[u8]) -> bool
+        ensures { taken_in word.now self.old.left self.old ≡ (result, self.new) }
     {
         let [span, rest @ ..] = self.left else {
             return false;
         };
-        if &self.bytes[span.from..span.to] == b"scroll".as_slice() {
-            self.left = rest;
-            return true;
-        }
-        false
-    }
-
-    /// Whether the next word is `not`, which is taken then.
-    #[tactic(auto, unfolding(script_model::specs::Statements::negation_in))]
-    pub fn negation(&mut self) -> bool
-        ensures { negation_in self.old.left self.old ≡ (result, self.new) }
-    {
-        let [span, rest @ ..] = self.left else {
-            return false;
-        };
-        if &self.bytes[span.from..span.to] == b"not".as_slice() {
+        if &self.bytes[span.from..span.to] == word {
             self.left = rest;
             return true;
         }

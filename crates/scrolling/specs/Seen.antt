@@ -18,7 +18,7 @@ point_of extent = record { left = pos extent.across; top = pos extent.down }
 
 abbrev pub seen_target : ScrollTarget → ModelTarget
 seen_target (Node element) = ScrolledElement element.0
-seen_target (Document number) = ScrolledDocument number
+seen_target (Document document) = ScrolledDocument document.0
 
 abbrev pub seen_targets : List ScrollTarget → List ModelTarget
 seen_targets targets = map seen_target targets

@@ -9,6 +9,7 @@ ghost use Rattle.scrolling.specs.Seen.{seen_target, seen_targets};
 
 use crate::ScrollTarget;
 use crate::target::is_same;
+use element_tree::DocumentId;
 use std::alloc::AllocError;
 use std::mem::replace;
 
@@ -44,14 +45,14 @@ fn fill(lists: &mut Vec<Vec<ScrollTarget>>, count: usize)
 // Puts a target last on the list of a document, unless it is there, where that takes no memory.
 pub(crate) fn add_pending(
     lists: &mut Vec<Vec<ScrollTarget>>,
-    document: u32,
+    document: DocumentId,
     target: ScrollTarget,
 ) -> Result<(), AllocError>
-    ensures added { OnOk result (seen_lists lists.new.items ≡ put_at [] document (with_listed (seen_target target) (entry_or [] (seen_lists lists.old.items) document)) (seen_lists lists.old.items)) }
+    ensures added { OnOk result (seen_lists lists.new.items ≡ put_at [] document.0 (with_listed (seen_target target) (entry_or [] (seen_lists lists.old.items) document.0)) (seen_lists lists.old.items)) }
     ensures same { OnErr result (seen_lists lists.new.items ≡ seen_lists lists.old.items) }
-    ensures there { list_any (is_same_scroll (seen_target target)) (entry_or [] (seen_lists lists.old.items) document) ≡ true → IsOk result }
+    ensures there { list_any (is_same_scroll (seen_target target)) (entry_or [] (seen_lists lists.old.items) document.0) ≡ true → IsOk result }
 {
-    let place = document as usize;
+    let place = document.0 as usize;
     if place < lists.len() {
         return list_target(&mut lists[place], target);
     }
@@ -64,11 +65,14 @@ pub(crate) fn add_pending(
 }
 
 // Hands out the list of a document, and leaves it empty.
-pub(crate) fn take_list(lists: &mut Vec<Vec<ScrollTarget>>, document: u32) -> Vec<ScrollTarget>
-    ensures value { seen_targets result.items ≡ entry_or [] (seen_lists lists.old.items) document }
-    ensures taken { seen_lists lists.new.items ≡ change_at (λ list. []) document (seen_lists lists.old.items) }
+pub(crate) fn take_list(
+    lists: &mut Vec<Vec<ScrollTarget>>,
+    document: DocumentId,
+) -> Vec<ScrollTarget>
+    ensures value { seen_targets result.items ≡ entry_or [] (seen_lists lists.old.items) document.0 }
+    ensures taken { seen_lists lists.new.items ≡ change_at (λ list. []) document.0 (seen_lists lists.old.items) }
 {
-    let place = document as usize;
+    let place = document.0 as usize;
     let empty = Vec::new(*lists.allocator());
     if place < lists.len() {
         replace(&mut lists[place], empty)

@@ -14,6 +14,7 @@ ghost use Rattle.scrolling.specs.Seen.{seen_size, seen_target, seen_targets, poi
 use crate::pending::{add_pending, take_list};
 use crate::positions::{Position, position_at, reserve_place, store};
 use crate::{Outcome, ScrollTarget};
+use element_tree::DocumentId;
 use px_units::{Point, Size};
 use std::alloc::{AllocError, Global};
 use std::marker::Model;
@@ -69,15 +70,15 @@ fn move_in(
     held: &mut Vec<Position>,
     pending: &mut Vec<Vec<ScrollTarget>>,
     number: u32,
-    document: u32,
+    document: DocumentId,
     target: ScrollTarget,
     position: Position,
 ) -> Result<(), AllocError>
     ensures held { OnOk result (map seen_position held.new.items ≡ put_at no_extent number (seen_position position) (map seen_position held.old.items)) }
-    ensures pending { OnOk result (seen_lists pending.new.items ≡ put_at [] document (with_listed (seen_target target) (entry_or [] (seen_lists pending.old.items) document)) (seen_lists pending.old.items)) }
+    ensures pending { OnOk result (seen_lists pending.new.items ≡ put_at [] document.0 (with_listed (seen_target target) (entry_or [] (seen_lists pending.old.items) document.0)) (seen_lists pending.old.items)) }
     ensures same_held { OnErr result (map seen_position held.new.items ≡ map seen_position held.old.items) }
     ensures same_pending { OnErr result (seen_lists pending.new.items ≡ seen_lists pending.old.items) }
-    ensures there { number < vec_len held.old → list_any (is_same_scroll (seen_target target)) (entry_or [] (seen_lists pending.old.items) document) ≡ true → IsOk result }
+    ensures there { number < vec_len held.old → list_any (is_same_scroll (seen_target target)) (entry_or [] (seen_lists pending.old.items) document.0) ≡ true → IsOk result }
 {
     reserve_place(held, number)?;
     add_pending(pending, document, target)?;
@@ -102,7 +103,9 @@ impl Scrolls {
     {
         match target {
             ScrollTarget::Node(node) => position_at(self.elements.as_slice(), node.0),
-            ScrollTarget::Document(document) => position_at(self.documents.as_slice(), document),
+            ScrollTarget::Document(document) => {
+                position_at(self.documents.as_slice(), document.0)
+            }
         }
     }
 
@@ -136,13 +139,13 @@ impl Scrolls {
     // Stores a position, and puts the target on the pending list of a document.
     fn move_to(
         &mut self,
-        document: u32,
+        document: DocumentId,
         target: ScrollTarget,
         position: Position,
     ) -> Result<(), AllocError>
-        ensures moved { OnOk result (self.new ≡ with_pending document (seen_target target) (with_position (seen_target target) (seen_position position) self.old)) }
+        ensures moved { OnOk result (self.new ≡ with_pending document.0 (seen_target target) (with_position (seen_target target) (seen_position position) self.old)) }
         ensures same { OnErr result (self.new ≡ self.old) }
-        ensures pending { is_pending document (seen_target target) self.old ≡ true → IsOk result }
+        ensures pending { is_pending document.0 (seen_target target) self.old ≡ true → IsOk result }
     {
         match target {
             ScrollTarget::Node(node) => move_in(
@@ -153,10 +156,10 @@ impl Scrolls {
                 target,
                 position,
             ),
-            ScrollTarget::Document(number) => move_in(
+            ScrollTarget::Document(scrolled) => move_in(
                 &mut self.documents,
                 &mut self.pending,
-                number,
+                scrolled.0,
                 document,
                 target,
                 position,
@@ -171,17 +174,17 @@ impl Scrolls {
     /// It asks for memory only where the target isn't pending there; where there is none, nothing changes.
     pub fn scroll_to(
         &mut self,
-        document: u32,
+        document: DocumentId,
         target: ScrollTarget,
         wanted: Point,
         range: Size,
     ) -> Result<Outcome, AllocError>
         requires { IsRange range }
-        ensures scrolled { OnOk result (self.new ≡ scrolled document (seen_target target) (kept_in range wanted) (seen_size range) self.old) }
+        ensures scrolled { OnOk result (self.new ≡ scrolled document.0 (seen_target target) (kept_in range wanted) (seen_size range) self.old) }
         ensures outcome { IfOk result (λ outcome. outcome ≡ outcome_of (stays (seen_target target) (kept_in range wanted) (seen_size range) self.old)) }
         ensures same { OnErr result (self.new ≡ self.old) }
         ensures still { stays (seen_target target) (kept_in range wanted) (seen_size range) self.old ≡ true → IsOk result }
-        ensures pending { is_pending document (seen_target target) self.old ≡ true → IsOk result }
+        ensures pending { is_pending document.0 (seen_target target) self.old ≡ true → IsOk result }
     {
         let position = Position {
             across: kept(wanted.left, range.width),
@@ -196,9 +199,9 @@ impl Scrolls {
     }
 
     /// Hands out a document's pending list, and leaves it empty (CSSOM View, 13: run the scroll steps). It takes no memory.
-    pub fn take_pending(&mut self, document: u32) -> Vec<ScrollTarget>
-        ensures value { seen_targets result.items ≡ pending_of document self.old }
-        ensures taken { self.new ≡ without_pending document self.old }
+    pub fn take_pending(&mut self, document: DocumentId) -> Vec<ScrollTarget>
+        ensures value { seen_targets result.items ≡ pending_of document.0 self.old }
+        ensures taken { self.new ≡ without_pending document.0 self.old }
         ensures distinct { HasNoDoubles (seen_targets result.items) }
     {
         take_list(&mut self.pending, document)

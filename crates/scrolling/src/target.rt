@@ -4,13 +4,13 @@ ghost use Rattle.std.specs.Prelude.{◌≡◌};
 ghost use Rattle.page_model.specs.Scrolls.{is_same_scroll};
 ghost use Rattle.scrolling.specs.Seen.{seen_target};
 
-use element_tree::NodeId;
+use element_tree::{DocumentId, NodeId};
 
-/// What is scrolled: a scroll container, or the viewport of a document, by its number.
+/// What is scrolled: a scroll container, or the viewport of a document.
 #[derive(Clone, Copy, PartialEq, Eq, Debug)]
 pub enum ScrollTarget {
     Node(NodeId),
-    Document(u32),
+    Document(DocumentId),
 }
 
 /// What a scroll did.
@@ -28,7 +28,7 @@ pub(crate) fn is_same(a: ScrollTarget, b: ScrollTarget) -> bool
 {
     match (a, b) {
         (ScrollTarget::Node(one), ScrollTarget::Node(other)) => one.0 == other.0,
-        (ScrollTarget::Document(one), ScrollTarget::Document(other)) => one == other,
+        (ScrollTarget::Document(one), ScrollTarget::Document(other)) => one.0 == other.0,
         (ScrollTarget::Node(_), ScrollTarget::Document(_))
         | (ScrollTarget::Document(_), ScrollTarget::Node(_)) => false,
     }

@@ -2,6 +2,9 @@
 use Rattle.std.specs.Prelude.{Bool, true, false, option_map, unsigned_abs}
 use Rattle.px_units.specs.Lengths.{seen_length, seen_inset}
 use Rattle.layout_model.specs.Styles.{Style as StyleModel, Declaration as DeclarationModel, BoxSizing as BoxSizingModel, Overflow as OverflowModel, Position as PositionModel, StaticPosition, RelativePosition, AbsolutePosition, FixedPosition, ContentBox, BorderBox, OverflowVisible, OverflowHidden, OverflowClip, OverflowScroll, OverflowAuto, Side, TopSide, RightSide, BottomSide, LeftSide, AllSides, SetDisplay, SetWidth, SetHeight, SetMinWidth, SetMinHeight, SetMaxWidth, SetMaxHeight, SetMargin, SetPadding, SetBorder, SetBoxSizing, SetOverflow, SetPosition, SetTop, SetRight, SetBottom, SetLeft}
+use Rattle.script_model.specs.Syntax.{Dimension, WidthDimension, HeightDimension}
+use Rattle.style_values.specs.declared.Axis.{Axis}
+use Rattle.style_values.specs.declared.Axis.TheVariants as axis
 use Rattle.style_values.specs.declared.Display.{Display}
 use Rattle.style_values.specs.declared.Display.TheVariants as display
 use Rattle.style_values.specs.declared.BoxSizing.{BoxSizing}
@@ -31,6 +34,10 @@ seen_overflow overflow.Hidden = OverflowHidden
 seen_overflow overflow.Clip = OverflowClip
 seen_overflow overflow.Scroll = OverflowScroll
 seen_overflow overflow.Auto = OverflowAuto
+
+abbrev pub seen_axis : Axis → Dimension
+seen_axis axis.Width = WidthDimension
+seen_axis axis.Height = HeightDimension
 
 abbrev pub seen_position : Position → PositionModel
 seen_position position.Static = StaticPosition

@@ -31,7 +31,7 @@ const POSITIONS: [(&[u8], Position); 4] = [
 
 /// What the word stands for in a table of fixed words, none where it isn't there.
 #[tactic(auto, unfolding(script_model::specs::Keywords::lookup))]
-pub fn find<T: Copy>(mut table: &[(&[u8], T)], word: &[u8]) -> Option<T>
+pub fn lookup<T: Copy>(mut table: &[(&[u8], T)], word: &[u8]) -> Option<T>
     ensures { result ≡ lookup (map (λ row. keyword row.0.now row.1) table.entry.now) word.now }
 {
     while let [row, rest @ ..] = table {
@@ -47,26 +47,26 @@ pub fn find<T: Copy>(mut table: &[(&[u8], T)], word: &[u8]) -> Option<T>
 pub fn display(word: &[u8]) -> Option<Display>
     ensures { option_map seen_display result ≡ lookup displays word.now }
 {
-    find(&DISPLAYS, word)
+    lookup(&DISPLAYS, word)
 }
 
 /// The box that this word names.
 pub fn box_sizing(word: &[u8]) -> Option<BoxSizing>
     ensures { option_map seen_box_sizing result ≡ lookup box_sizings word.now }
 {
-    find(&BOX_SIZINGS, word)
+    lookup(&BOX_SIZINGS, word)
 }
 
 /// The overflow that this word names.
 pub fn overflow(word: &[u8]) -> Option<Overflow>
     ensures { option_map seen_overflow result ≡ lookup overflows word.now }
 {
-    find(&OVERFLOWS, word)
+    lookup(&OVERFLOWS, word)
 }
 
 /// The position that this word names.
 pub fn position(word: &[u8]) -> Option<Position>
     ensures { option_map seen_position result ≡ lookup positions word.now }
 {
-    find(&POSITIONS, word)
+    lookup(&POSITIONS, word)
 }

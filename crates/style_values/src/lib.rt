@@ -7,6 +7,7 @@ mod lengths;
 mod properties;
 mod styles;
 
+pub use keywords::lookup;
 pub use properties::first_version;
 use px_units::{Length, Px};
 use thiserror::Error;
@@ -44,6 +45,15 @@ pub enum Overflow {
     Auto,
 }
 
+/// A dimension of a box (CSS 2.2, 10.2 and 10.5).
+#[derive(Clone, Copy, Debug, PartialEq, Eq)]
+pub enum Axis {
+    /// `width`
+    Width,
+    /// `height`
+    Height,
+}
+
 /// How a box is positioned (CSS Positioned Layout 3, 2).
 #[derive(Clone, Copy, Debug, PartialEq, Eq)]
 pub enum Position {
@@ -72,42 +82,42 @@ pub enum Sides {
 /// percentages in hundredths of a percent, at most 1,000,000; none but insets is negative, and those are at least the negatives of these.
 #[derive(Clone, Copy, Debug, PartialEq, Eq)]
 pub struct Style {
-    /// First `block`.
+    /// Initially `block`.
     pub display: Display,
-    /// First `content-box`.
+    /// Initially `content-box`.
     pub box_sizing: BoxSizing,
-    /// First `visible`.
+    /// Initially `visible`.
     pub overflow: Overflow,
-    /// First `auto`.
+    /// Initially `auto`.
     pub width: Length,
-    /// First `auto`.
+    /// Initially `auto`.
     pub height: Length,
-    /// A length or a percentage, first 0.
+    /// A length or a percentage, initially 0.
     pub min_width: Length,
-    /// A length or a percentage, first 0.
+    /// A length or a percentage, initially 0.
     pub min_height: Length,
-    /// A length or a percentage; None, as at first, for `none`.
+    /// A length or a percentage, None for `none`. Initially None.
     pub max_width: Option<Length>,
-    /// A length or a percentage; None, as at first, for `none`.
+    /// A length or a percentage, None for `none`. Initially None.
     pub max_height: Option<Length>,
-    /// Margins are lengths or percentages, first 0.
+    /// Margins are lengths or percentages, initially 0.
     pub margin_top: Length,
     pub margin_right: Length,
     pub margin_bottom: Length,
     pub margin_left: Length,
-    /// Paddings are lengths or percentages, first 0.
+    /// Paddings are lengths or percentages, initially 0.
     pub padding_top: Length,
     pub padding_right: Length,
     pub padding_bottom: Length,
     pub padding_left: Length,
-    /// Borders are lengths, first 0.
+    /// Borders are lengths, initially 0.
     pub border_top: Px,
     pub border_right: Px,
     pub border_bottom: Px,
     pub border_left: Px,
-    /// First `static`.
+    /// Initially `static`.
     pub position: Position,
-    /// The insets of a positioned box are `auto`, as at first, or lengths or percentages, which may be negative.
+    /// The insets of a positioned box are `auto`, or lengths or percentages, which may be negative. Initially `auto`.
     pub top: Length,
     pub right: Length,
     pub bottom: Length,
@@ -157,9 +167,9 @@ pub enum Declaration {
 #[derive(Clone, Copy, Debug, PartialEq, Eq, Error)]
 pub enum StyleFault {
     /// There is no property of this name.
-    #[error("UnknownProperty")]
+    #[error("there is no property of this name")]
     UnknownProperty,
     /// The property has no such value.
-    #[error("BadValue")]
+    #[error("the property has no such value")]
     BadValue,
 }

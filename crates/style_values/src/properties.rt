@@ -10,7 +10,7 @@ ghost use Rattle.style_values.specs.Ranges.{IsAllowed};
 ghost use Rattle.style_values.specs.Seen.{seen_declaration};
 ghost use Rattle.style_values.specs.Versions.{reads};
 
-use crate::keywords::{box_sizing, display, find, overflow, position};
+use crate::keywords::{box_sizing, display, lookup, overflow, position};
 use crate::lengths::{auto_or_size, border, inset, none_or_size, size};
 use crate::{Declaration, Sides};
 use text_io::Version;
@@ -78,14 +78,14 @@ const POSITIONED: [(&[u8], Property); 5] = [
 fn unpositioned(name: &[u8]) -> Option<Property>
     ensures { option_map reader_of result ≡ lookup properties name.now }
 {
-    find(&PROPERTIES, name)
+    lookup(&PROPERTIES, name)
 }
 
 /// The property of this name, of those that the second version has besides.
 fn positioned(name: &[u8]) -> Option<Property>
     ensures { option_map reader_of result ≡ lookup positioned_properties name.now }
 {
-    find(&POSITIONED, name)
+    lookup(&POSITIONED, name)
 }
 
 /// The property of this name, of those that a version of the script language has.

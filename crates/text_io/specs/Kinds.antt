@@ -1,5 +1,6 @@
 -- The words by which scripts and traces name versions, limits, exceptions and events.
-use Rattle.std.specs.Prelude.{ℕ, List, codes}
+use Rattle.std.specs.Prelude.{ℕ, List, [], ◌∷◌, Option, bytes_eq, codes}
+use Rattle.std.specs.List.{find}
 use Rattle.text_io.specs.declared.kinds.Version.{Version}
 use Rattle.text_io.specs.declared.kinds.Version.TheVariants.{First, Second}
 use Rattle.text_io.specs.declared.kinds.LimitKind.{LimitKind}
@@ -51,3 +52,33 @@ event_word Resize = codes "resize"
 event_word Scroll = codes "scroll"
 event_word Error = codes "error"
 event_word Change = codes "change"
+
+-- the first of some values that has this word
+unfoldable pub named : {A : Type 0} → (A → List ℕ) → List A → List ℕ → Option A
+named word_of values word = find (λ value. bytes_eq (word_of value) word) values
+
+abbrev pub all_versions : List Version
+all_versions = First ∷ Second ∷ []
+
+abbrev pub event_kinds : List EventKind
+event_kinds = Resize ∷ Scroll ∷ Error ∷ Change ∷ []
+
+abbrev pub throw_kinds : List ThrowKind
+throw_kinds = ReferenceError ∷ TypeError ∷ HierarchyRequestError ∷ NotFoundError ∷ SyntaxError ∷ RangeError ∷ []
+
+abbrev pub limit_kinds : List LimitKind
+limit_kinds =
+    Script ∷ Line ∷ Handlers ∷ Nesting ∷ Commands ∷ Nodes ∷ Depth ∷ Documents ∷ ResizeObservers ∷ IntersectionObservers
+    ∷ ResizeObservations ∷ IntersectionObservations ∷ Listeners ∷ Timers ∷ FrameCallbacks ∷ Tasks ∷ Queries ∷ Recorded ∷ Pages ∷ []
+
+abbrev pub version_of : List ℕ → Option Version
+version_of word = named version_word all_versions word
+
+abbrev pub event_of : List ℕ → Option EventKind
+event_of word = named event_word event_kinds word
+
+abbrev pub throw_of : List ℕ → Option ThrowKind
+throw_of word = named throw_word throw_kinds word
+
+abbrev pub limit_of : List ℕ → Option LimitKind
+limit_of word = named limit_word limit_kinds word

@@ -1,5 +1,5 @@
 -- How much a run may hold of each thing, by the version of its script. The limits are this project's own choice.
-use Rattle.std.specs.Prelude.{ℕ}
+use Rattle.std.specs.Prelude.{◌≡◌, ℕ}
 use Rattle.text_io.specs.declared.kinds.Version.{Version}
 use Rattle.text_io.specs.declared.kinds.Version.TheVariants.{First, Second}
 use Rattle.text_io.specs.declared.kinds.LimitKind.{LimitKind}
@@ -33,6 +33,10 @@ limit_number version limits.Tasks = 4096
 limit_number version limits.Queries = 4096
 limit_number version limits.Recorded = 67108864
 limit_number version limits.Pages = 8
+
+-- a kind of limit that has one number, whatever the version
+abbrev pub IsCommon : LimitKind → Type 0
+IsCommon kind = limit_number First kind ≡ limit_number Second kind
 
 -- a limit that is the same in each version: those that are met before the version is known, while a text is read, and those of the
 -- levels of a tree and of documents

@@ -1,6 +1,6 @@
 ghost use Rattle.std.specs.Prelude.{◌≡◌};
-ghost use Rattle.text_io.specs.Kinds.{version_word, limit_word, throw_word, event_word};
-ghost use Rattle.text_io.specs.Limits.{by_version, limit_number, common_limit};
+ghost use Rattle.text_io.specs.Kinds.{version_word, limit_word, throw_word, event_word, version_of, limit_of, throw_of, event_of};
+ghost use Rattle.text_io.specs.Limits.{by_version, limit_number, common_limit, IsCommon};
 
 /// A version of the script language. A script names it in its first line.
 #[derive(Clone, Copy, Debug, PartialEq, Eq, Hash)]
@@ -12,6 +12,8 @@ pub enum Version {
 }
 
 impl Version {
+    pub const ALL: [Version; 2] = [Version::First, Version::Second];
+
     /// The word for it in a script's first line.
     pub fn text(&self) -> &'static str
         ensures { result.now ≡ version_word self.now }
@@ -20,6 +22,17 @@ impl Version {
             Version::First => "1",
             Version::Second => "2",
         }
+    }
+
+    /// The version that this word names.
+    #[tactic(auto, unfolding(crate::specs::Kinds::named))]
+    pub fn named(word: &[u8]) -> Option<Version>
+        ensures { result ≡ version_of word.now }
+    {
+        Version::ALL
+            .iter()
+            .copied()
+            .find(|version| version.text().as_bytes() == word)
     }
 }
 
@@ -78,6 +91,28 @@ fn by_version(version: Version, first: u64, second: u64) -> u64
 }
 
 impl LimitKind {
+    pub const ALL: [LimitKind; 19] = [
+        LimitKind::Script,
+        LimitKind::Line,
+        LimitKind::Handlers,
+        LimitKind::Nesting,
+        LimitKind::Commands,
+        LimitKind::Nodes,
+        LimitKind::Depth,
+        LimitKind::Documents,
+        LimitKind::ResizeObservers,
+        LimitKind::IntersectionObservers,
+        LimitKind::ResizeObservations,
+        LimitKind::IntersectionObservations,
+        LimitKind::Listeners,
+        LimitKind::Timers,
+        LimitKind::FrameCallbacks,
+        LimitKind::Tasks,
+        LimitKind::Queries,
+        LimitKind::Recorded,
+        LimitKind::Pages,
+    ];
+
     /// The word for it in a trace.
     pub fn text(&self) -> &'static str
         ensures { result.now ≡ limit_word self.now }
@@ -103,6 +138,17 @@ impl LimitKind {
             LimitKind::Recorded => "recorded",
             LimitKind::Pages => "pages",
         }
+    }
+
+    /// The limit that this word names.
+    #[tactic(auto, unfolding(crate::specs::Kinds::named))]
+    pub fn named(word: &[u8]) -> Option<LimitKind>
+        ensures { result ≡ limit_of word.now }
+    {
+        LimitKind::ALL
+            .iter()
+            .copied()
+            .find(|kind| kind.text().as_bytes() == word)
     }
 
     /// The most that a run of a script of this version may hold, in bytes for `Script`, `Line` and `Recorded`, in things of the kind for
@@ -133,8 +179,9 @@ impl LimitKind {
         }
     }
 
-    /// The same where no version is known: for the limits that are the same in each.
+    /// The number of a limit that is the same in each version, as those are that are met before the version is known.
     pub fn common(&self) -> u64
+        requires { IsCommon self.now }
         ensures { result ≡ common_limit self.now }
     {
         self.number(Version::First)
@@ -159,6 +206,15 @@ pub enum ThrowKind {
 }
 
 impl ThrowKind {
+    pub const ALL: [ThrowKind; 6] = [
+        ThrowKind::ReferenceError,
+        ThrowKind::TypeError,
+        ThrowKind::HierarchyRequestError,
+        ThrowKind::NotFoundError,
+        ThrowKind::SyntaxError,
+        ThrowKind::RangeError,
+    ];
+
     /// The name of the exception, as a trace gives it.
     pub fn text(&self) -> &'static str
         ensures { result.now ≡ throw_word self.now }
@@ -171,6 +227,17 @@ impl ThrowKind {
             ThrowKind::SyntaxError => "SyntaxError",
             ThrowKind::RangeError => "RangeError",
         }
+    }
+
+    /// The exception of this name.
+    #[tactic(auto, unfolding(crate::specs::Kinds::named))]
+    pub fn named(word: &[u8]) -> Option<ThrowKind>
+        ensures { result ≡ throw_of word.now }
+    {
+        ThrowKind::ALL
+            .iter()
+            .copied()
+            .find(|kind| kind.text().as_bytes() == word)
     }
 }
 
@@ -188,6 +255,13 @@ pub enum EventKind {
 }
 
 impl EventKind {
+    pub const ALL: [EventKind; 4] = [
+        EventKind::Resize,
+        EventKind::Scroll,
+        EventKind::Error,
+        EventKind::Change,
+    ];
+
     /// The type of the event, as scripts and traces give it.
     pub fn text(&self) -> &'static str
         ensures { result.now ≡ event_word self.now }
@@ -198,5 +272,16 @@ impl EventKind {
             EventKind::Error => "error",
             EventKind::Change => "change",
         }
+    }
+
+    /// The event of this type.
+    #[tactic(auto, unfolding(crate::specs::Kinds::named))]
+    pub fn named(word: &[u8]) -> Option<EventKind>
+        ensures { result ≡ event_of word.now }
+    {
+        EventKind::ALL
+            .iter()
+            .copied()
+            .find(|kind| kind.text().as_bytes() == word)
     }
 }

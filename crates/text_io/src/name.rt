@@ -1,6 +1,4 @@
-ghost use Rattle.std.specs.Prelude.{◌≡◌, ◌<◌, ◌≤◌, true, false, length, Some, IfSome, IfNone, IsTrue};
-ghost use Rattle.std.specs.List.{list_all};
-ghost use Rattle.word_model.specs.Names as name_model;
+ghost use Rattle.std.specs.Prelude.{◌≡◌, ◌<◌, ◌≤◌, true, false, length, Some, IfSome, IfNone};
 ghost use Rattle.word_model.specs.Names.{is_name};
 ghost use Rattle.std.specs.Ordering.{nat_cmp};
 ghost use Rattle.std.specs.Str.{bytes_eq};
@@ -13,6 +11,7 @@ ghost use Rattle.std.proofs.lemmas.Slice.Eq.{bytes_eq-Decides};
 use std::cmp::Ordering;
 use std::hash::{Hash, Hasher};
 use std::marker::Model;
+use word_model::is_name;
 
 /// The most bytes of a name.
 const LONGEST: usize = 32;
@@ -50,7 +49,7 @@ impl Name {
         ensures named { IfSome result (λ _. is_name word.now ≡ true) }
         ensures none { IfNone result (is_name word.now ≡ false) }
     {
-        if !has_form(word) {
+        if !is_name(word) {
             return None;
         }
         let mut bytes = [0; LONGEST];
@@ -118,35 +117,4 @@ impl Hash for Name {
     fn hash<H: Hasher>(&self, state: &mut H) {
         self.bytes().hash(state);
     }
-}
-
-// Whether a word has the form of a name.
-#[tactic(auto, using(crate::proofs::Words::name_by_parts))]
-fn has_form(word: &[u8]) -> bool
-    ensures value { result ≡ is_name word.now }
-    ensures some { IsTrue result → 0 < length word.now }
-    ensures within { IsTrue result → length word.now ≤ 32 }
-{
-    match word {
-        [first, rest @ ..] => { is_letter(*first) && are_name_bytes(rest) && rest.len() < LONGEST }
-        [] => false,
-    }
-}
-
-fn are_name_bytes(bytes: &[u8]) -> bool
-    ensures { result ≡ list_all name_model.is_name_byte bytes.now }
-{
-    bytes.iter().all(|byte| is_name_byte(*byte))
-}
-
-fn is_letter(byte: u8) -> bool
-    ensures { result ≡ name_model.is_letter byte }
-{
-    byte.is_ascii_alphabetic()
-}
-
-fn is_name_byte(byte: u8) -> bool
-    ensures { result ≡ name_model.is_name_byte byte }
-{
-    byte.is_ascii_alphanumeric() || byte == b'_' || byte == b'-'
 }

@@ -14,19 +14,19 @@ pub struct Failed;
 #[derive(Clone, Copy, Debug, PartialEq, Eq, Error)]
 pub enum TextFault {
     /// A read failed.
-    #[error("ReadFault")]
+    #[error("a read failed")]
     ReadFault,
     /// A write failed.
-    #[error("WriteFault")]
+    #[error("a write failed")]
     WriteFault,
     /// More bytes were given than the limit allows.
-    #[error("TooLong")]
+    #[error("more bytes than the limit allows")]
     TooLong {
         /// How many line feeds there are among the bytes within the limit.
         feeds: u32,
     },
     /// No memory was left.
-    #[error("Memory")]
+    #[error("out of memory")]
     Memory,
 }
 

@@ -9,7 +9,7 @@ use script_syntax::parse;
 use std::test::Fail;
 use style_values::{Style, StyleFault};
 use text_io::{MemorySink, MemorySource, ThrowKind, read_all, write_all};
-use trace_runs::{Flow, write_each, write_throw};
+use trace_runs::{Flow, write_one, write_throw};
 use trace_summary::{GatherSink, Summary};
 use trace_text::{TraceLine, read_line, write_line};
 use word_model::{length, push_decimal};
@@ -123,7 +123,7 @@ fn a_line_is_written_and_read_back(rt: HostRuntime) -> Result<(), Fail> {
 fn an_exception_is_written(rt: HostRuntime) -> Result<(), Fail> {
     let alloc = rt.alloc();
     let mut sink = MemorySink::new(alloc, 64, 4, Vec::new(alloc))?;
-    write_each(alloc, &[TraceLine::Tick(16)], &mut sink)?;
+    write_one(alloc, &TraceLine::Tick(16), &mut sink)?;
     let flow = write_throw(alloc, 7, ThrowKind::NotFoundError, &mut sink)?;
     assert_eq!(rt; flow, Flow::Thrown);
     assert_eq!(rt;

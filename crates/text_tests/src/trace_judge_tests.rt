@@ -1,16 +1,13 @@
-//! Traces judged, sources split, and judgements written.
+//! Traces judged, and judgements written.
 
 use std::alloc::Global;
 use std::process::Abort;
 use std::test::Fail;
 use text_io::MemorySink;
-use trace_judge::{How, Judgement, Recording, judge};
+use trace_judge::{How, Judgement, judge};
 use trace_runs::RunFault;
 
-/// A block that fills its viewport, seen by a resize observer, with the trace of its first tick.
-const SCRIPT: &str =
-    "script 1\nblock r top\nappend top r\nro o top -\nro-observe o r content\ntick 0\n";
-
+/// The trace of a block that fills its viewport, seen by a resize observer.
 const TRACE: &str = "tick 0\nresize o r rect 0 0 800 0 border 800 0\nround top 1\n";
 
 /// A trace of version 2, whose `resize` lines end with device pixels.
@@ -221,41 +218,6 @@ const PAIRS: [(&str, &str, Judgement); 7] = [
     ),
 ];
 
-/// A source with its script and its recorded trace.
-const SOURCES: [(&str, &str, &str); 15] = [
-    ("script 1\ntrace\ntick 0\n", "script 1\n", "tick 0\n"),
-    ("script 1\ntrace\r\ntick 0\n", "script 1\n", "tick 0\n"),
-    ("script 1\r\ntrace\r\ntick 0", "script 1\r\n", "tick 0"),
-    // only the first such line counts
-    (
-        "script 1\ntrace\ntick 0\ntrace\nx",
-        "script 1\n",
-        "tick 0\ntrace\nx",
-    ),
-    ("script 1\ntrace\ntrace\n", "script 1\n", "trace\n"),
-    // at the end
-    ("script 1\ntrace\n", "script 1\n", ""),
-    ("script 1\ntrace\r\n", "script 1\n", ""),
-    ("script 1\ntrace", "script 1\n", ""),
-    // at the start
-    ("trace\ntick 0\n", "", "tick 0\n"),
-    ("trace", "", ""),
-    // none
-    ("", "", ""),
-    ("script 1\ntick 0\n", "script 1\ntick 0\n", ""),
-    ("script 1\ntrace\r", "script 1\ntrace\r", ""),
-    (
-        "script 1\ntrace \n trace\nxtrace\ntraces\n",
-        "script 1\ntrace \n trace\nxtrace\ntraces\n",
-        "",
-    ),
-    (
-        "trace\r\r\nTRACE\ntrace\0\n",
-        "trace\r\r\nTRACE\ntrace\0\n",
-        "",
-    ),
-];
-
 /// Judgements with the lines that tell them.
 const LINES: [(Judgement, &str); 8] = [
     (Judgement::Equal { lines: 3 }, "equal 3\n"),
@@ -335,26 +297,18 @@ fn other_traces_may_be_expected(rt: HostRuntime) {
 }
 
 #[test]
-fn a_source_is_split_at_its_first_line_trace(rt: HostRuntime) {
-    for (source, script, trace) in &SOURCES {
-        let recording = Recording::split(source.as_bytes());
-        assert_eq!(&rt; recording.script, script.as_bytes(), "script of {source:?}");
-        assert_eq!(&rt; recording.trace, trace.as_bytes(), "trace of {source:?}");
-    }
-}
-
-#[test]
-fn a_script_with_its_trace_is_judged(rt: HostRuntime) -> Result<(), Fail> {
-    let mut source = Vec::from_slice(rt.alloc(), SCRIPT.as_bytes())?;
-    source.extend_from_slice(b"trace\n")?;
-    source.extend_from_slice(TRACE.as_bytes())?;
-    let recording = Recording::split(&source);
-    assert_eq!(&rt; recording.script, SCRIPT.as_bytes());
+fn a_recorded_trace_is_judged(rt: HostRuntime) {
     assert_eq!(&rt;
-        judge(TRACE.as_bytes(), recording.trace),
+        judge(TRACE.as_bytes(), TRACE.as_bytes()),
         Judgement::Equal { lines: 3 }
     );
-    Ok(())
+    assert_eq!(&rt;
+        judge(TRACE.as_bytes(), b"tick 0\n"),
+        Judgement::Differs {
+            line: 2,
+            how: How::Missing,
+        }
+    );
 }
 
 fn written(rt: &impl Abort, alloc: Global, judgement: &Judgement, line: &str) -> Result<(), Fail> {

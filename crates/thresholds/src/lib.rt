@@ -17,12 +17,12 @@ pub use thresholds::Thresholds;
 #[derive(Clone, Copy, Debug, PartialEq, Eq, Error)]
 pub enum ThresholdFault {
     /// The text isn't that of a root margin.
-    #[error("MarginSyntax")]
+    #[error("not the text of a margin")]
     MarginSyntax,
     /// A threshold is below 0 or above 1.
-    #[error("ThresholdRange")]
+    #[error("a threshold is below 0 or above 1")]
     ThresholdRange,
     /// Memory was refused.
-    #[error("Memory")]
+    #[error("out of memory")]
     Memory,
 }

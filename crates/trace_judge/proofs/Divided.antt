@@ -1,13 +1,10 @@
 -- A source up to its first line `trace`.
-use Rattle.std.proofs.Common.{◌≡◌, ◌∙◌, refl, sym, ap, subst, ◌⊎◌, inl, inr, ℕ, suc, ◌+◌, ◌<◌, ◌≤◌, Bool, true, false, cond, not, List, [], ◌∷◌, ◌++◌, length, take, drop, arith, append_assoc, length-append}
-use Rattle.std.proofs.lemmas.List.{append-nil}
-use Rattle.std.proofs.Math.Seq.{take-append_seam}
+use Rattle.std.proofs.Common.{◌≡◌, ◌∙◌, refl, sym, ap, subst, ◌⊎◌, inl, inr, ℕ, suc, ◌+◌, ◌<◌, Bool, true, false, cond, not, List, [], ◌∷◌, ◌++◌, length, take, drop, arith, append_assoc}
 use Rattle.std.specs.List.{concat}
 use Rattle.trace_summary.specs.Lines.{first_line, behind_line}
-use Rattle.trace_summary.proofs.Splits.{line_splits}
 use Rattle.trace_judge.specs.Lines.{lines_of}
 use Rattle.trace_judge.specs.Recordings.{is_divider, script_lines, script_of, trace_of}
-use Rattle.trace_judge.proofs.Splits.{lines_by_first, lines_make, no_byte}
+use Rattle.trace_judge.proofs.Splits.{lines_by_first, lines_make}
 
 -- ---- lists of lines
 
@@ -54,63 +51,6 @@ script_none = refl
 pub trace_none : trace_of [] ≡ []
 unfolding trace_of lines_of
 trace_none = refl
-
--- ---- what is left of a source behind lines of its script
-
-pub record Dividing (source rest : List ℕ) (long : ℕ) : Type 0 where
-  pub front : List ℕ
-  pub is_long : long ≡ length front
-  pub makes : front ++ rest ≡ source
-  pub script : script_of source ≡ front ++ script_of rest
-  pub trace : trace_of source ≡ trace_of rest
-
-pub dividing_none : (source : List ℕ) → Dividing source source 0
-dividing_none source = record { front = []; is_long = refl; makes = refl; script = refl; trace = refl }
-
-pub dividing_within : {source rest : List ℕ} {long : ℕ} → Dividing source rest long → long + length rest ≡ length source
-dividing_within {source} {rest} {long} here =
-    let both = length-append here.front rest in
-    let all = ap length here.makes in
-    let is = here.is_long in
-    omega arith
-
-pub dividing_more : {source rest line behind : List ℕ} {long : ℕ} → Dividing source rest long → 0 < length rest → line ≡ first_line rest → behind ≡ behind_line rest
-    → is_divider line ≡ false → Dividing source behind (long + length line)
-dividing_more {source} {rest} {line} {behind} {long} here some first left other =
-    let splits : line ++ behind ≡ rest = ap (λ l. l ++ behind) first ∙ ap (λ b. first_line rest ++ b) left ∙ line_splits rest in
-    let not_first : is_divider (first_line rest) ≡ false = ap is_divider (sym first) ∙ other in
-    let both = length-append here.front line in
-    let is = here.is_long in
-    record {
-      front = here.front ++ line;
-      is_long = omega arith;
-      makes = append_assoc here.front line behind ∙ ap (λ t. here.front ++ t) splits ∙ here.makes;
-      script =
-          here.script
-          ∙ ap (λ t. here.front ++ t) (script_goes rest some not_first ∙ ap (λ l. l ++ script_of (behind_line rest)) (sym first) ∙ ap (λ b. line ++ script_of b) (sym left))
-          ∙ sym (append_assoc here.front line (script_of behind));
-      trace = here.trace ∙ trace_waits rest some not_first ∙ ap trace_of (sym left);
-    }
-
-pub script_cut : {source rest : List ℕ} {long : ℕ} → Dividing source rest long → 0 < length rest → is_divider (first_line rest) ≡ true → take long source ≡ script_of source
-script_cut {source} {rest} {long} here some is =
-    ap (λ n. take n source) here.is_long
-    ∙ ap (λ t. take (length here.front) t) (sym here.makes)
-    ∙ take-append_seam here.front rest
-    ∙ sym (append-nil here.front)
-    ∙ ap (λ t. here.front ++ t) (sym (script_ends rest some is))
-    ∙ sym here.script
-
-pub trace_cut : {source rest : List ℕ} {long : ℕ} → Dividing source rest long → 0 < length rest → is_divider (first_line rest) ≡ true → behind_line rest ≡ trace_of source
-trace_cut {source} {rest} {long} here some is = sym (here.trace ∙ trace_begins rest some is)
-
-pub script_whole : {source rest : List ℕ} {long : ℕ} → Dividing source rest long → length rest ≤ 0 → source ≡ script_of source
-script_whole {source} {rest} {long} here none =
-    let empty = no_byte rest none in
-    sym here.makes ∙ ap (λ t. here.front ++ t) (empty ∙ sym script_none ∙ ap script_of (sym empty)) ∙ sym here.script
-
-pub trace_empty : {source rest : List ℕ} {long : ℕ} → Dividing source rest long → length rest ≤ 0 → [] ≡ trace_of source
-trace_empty {source} {rest} {long} here none = sym (here.trace ∙ ap trace_of (no_byte rest none) ∙ trace_none)
 
 -- ---- nothing of a source is lost
 

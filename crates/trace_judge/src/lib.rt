@@ -12,4 +12,4 @@ pub use laws::{
     a_source_is_its_parts, equal_exactly_where_the_same, lines_before_a_difference_are_the_same,
     lines_make_the_text, what_a_trace_line_is,
 };
-pub use recording::{Recording, is_divider};
+pub use recording::is_divider;

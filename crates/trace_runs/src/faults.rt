@@ -7,7 +7,7 @@ use thiserror::Error;
 #[derive(Clone, Copy, Debug, PartialEq, Eq, Error)]
 pub enum RunFault {
     /// A limit was met by the command that begins on this line, counted from 1. The line that says so isn't written yet.
-    #[error("Limit")]
+    #[error("line {line}: the limit of {} is met", .kind.text())]
     Limit {
         /// What there is a limit of.
         kind: LimitKind,
@@ -17,10 +17,10 @@ pub enum RunFault {
         number: u64,
     },
     /// No memory was left.
-    #[error("Memory")]
+    #[error("out of memory")]
     Memory,
     /// A write failed.
-    #[error("WriteFault")]
+    #[error("a write failed")]
     WriteFault,
 }
 

@@ -6,4 +6,4 @@ mod faults;
 mod write;
 
 pub use faults::{Flow, RunFault};
-pub use write::{write_each, write_one, write_text, write_throw};
+pub use write::{write_one, write_text, write_throw};

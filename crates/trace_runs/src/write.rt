@@ -1,7 +1,6 @@
 //! Lines, written to a sink.
 
-ghost use Rattle.std.specs.Prelude.{◌≡◌, [], ◌∷◌, map};
-ghost use Rattle.std.specs.List.{All};
+ghost use Rattle.std.specs.Prelude.{[], ◌∷◌};
 ghost use Rattle.script_model.specs.TraceLines.{ThrowLine};
 ghost use Rattle.page_model.specs.Runs.{Thrown};
 ghost use Rattle.page_model.specs.World.{World};
@@ -44,20 +43,7 @@ pub fn write_one<K: Sink>(alloc: Global, line: &TraceLine, sink: &mut K) -> Resu
     write_text(sink, &text)
 }
 
-/// Writes lines one after another. Refused as `write_one`, and a first part of the lines was written then.
-pub fn write_each<K: Sink>(alloc: Global, lines: &[TraceLine], sink: &mut K) -> Result<(), RunFault>
-    requires { All (λ line. HasReach (seen_line line)) lines.now }
-    ensures { Told result (K.taken sink.old) (K.taken sink.new) (K.faults sink.old) (K.faults sink.new) (map seen_line lines.now) }
-{
-    for line in lines {
-        if let Err(fault) = write_one(alloc, line, sink) {
-            return Err(fault);
-        }
-    }
-    Ok(())
-}
-
-/// Writes that the command on a line threw, and answers `Thrown`. Refused as `write_one`.
+/// Writes that the command on a line threw, and answers `Thrown`. The faults are those of `write_one`.
 pub fn write_throw<K: Sink>(
     alloc: Global,
     line: u32,

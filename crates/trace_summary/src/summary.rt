@@ -52,7 +52,6 @@ const NO_LINES: Summary = Summary {
     syntax: 0,
 };
 
-// The text of a row.
 #[tactic(auto, using(crate::proofs::Rows::row_pushed))]
 fn row(alloc: Global, kind: &str, count: u64) -> Result<Vec<u8>, AllocError>
     ensures { IfOk result (λ text. text.items ≡ row_text kind.now count) }
@@ -95,7 +94,7 @@ impl Summary {
         Ok(summary)
     }
 
-    // The line with this text.
+    // Counts the line with this text.
     fn count(&mut self, text: &[u8]) -> Result<(), TraceFault>
         requires { HasRoom self.old }
         ensures ok { OnOk result ((line : LineModel) × IsLine line × (line_text line ≡ text.now) × (self.new ≡ with_line line self.old)) }
@@ -110,7 +109,7 @@ impl Summary {
         }
     }
 
-    // A line more.
+    // Counts a line.
     fn add(&mut self, line: &TraceLine)
         requires { HasRoom self.old }
         ensures { self.new ≡ with_line (seen_line line.now) self.old }
@@ -133,7 +132,6 @@ impl Summary {
         }
     }
 
-    // The rows in their order.
     fn rows(&self) -> [(&'static str, u64); 14]
         ensures text { flat_map (λ r. row_text r.0.now r.1) result ≡ rows_text self.now }
         ensures count { length result ≡ 14 }

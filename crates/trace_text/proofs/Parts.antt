@@ -25,7 +25,7 @@ use Rattle.text_io.specs.declared.kinds.LimitKind.TheVariants.{Script, Line, Han
 use Rattle.script_model.specs.TraceText.{window_text, bool_text, meets_text, rect_fields, size_fields, whole_text, device_fields, point_fields}
 use Rattle.trace_text.specs.Fields.{is_field_byte, before}
 use Rattle.trace_text.specs.Ranges.{RectReaches, SizeReaches, PointReaches, IsName}
-use Rattle.trace_text.specs.Kinds.{named, event_of, event_kinds, throw_of, throw_kinds, limit_of, limit_kinds}
+use Rattle.text_io.specs.Kinds.{named, event_of, event_kinds, throw_of, throw_kinds, limit_of, limit_kinds}
 use Rattle.trace_text.specs.Reading.{◌>>=◌, Read, value_at, both, behind, name_of, name_at, names_at, window_of, window_at, number_of, number_at, u32_at, u64_at, ratio_of, ratio_at, bool_of, bool_at, meets_of, meets_at, pixels_of, pixels_at, whole_of, whole_at, point_at, size_at, device_at, in_reach, edge_of, rect_of, rect_at, behind_text, throw_at, limit_at}
 use Rattle.trace_text.proofs.Exact.{Exact, ExactAt, ExactLast, as_last, line_end, is_no_feed, some_same, parts, chosen, value_exact, both_exact, as_exact, behind_exact}
 use Rattle.trace_text.proofs.Numerals.{number_exact, ratio_exact, RatioFits, ratio_text_of}

@@ -20,7 +20,8 @@ use Rattle.script_model.specs.TraceText.{window_text, bool_text, meets_text, rec
 use Rattle.trace_text.specs.declared.kinds.LineKind.{LineKind}
 use Rattle.trace_text.specs.declared.kinds.LineKind.TheVariants as kind
 use Rattle.trace_text.specs.Fields.{is_field_byte, before}
-use Rattle.trace_text.specs.Kinds.{kind_word, named, line_kinds, kind_of, event_of}
+use Rattle.text_io.specs.Kinds.{named, event_of}
+use Rattle.trace_text.specs.Kinds.{kind_word, line_kinds, kind_of}
 use Rattle.trace_text.specs.Ranges.{IsName, RectReaches, SizeReaches, PointReaches, EntryReaches, EventFits, EntryFits, IsLine}
 use Rattle.trace_text.specs.Reading.{◌>>=◌, Read, field_of, behind_field, value_at, both, behind, behind_space, behind_text, name_at, names_at, window_at, u32_at, u64_at, bool_at, meets_at, ratio_at, rect_at, size_at, device_at, point_at, throw_at, limit_at, event_by, event_at, Seen, Rects, seen_at, rects_at, entry, line_by, ended, line_of}
 use Rattle.trace_text.proofs.Joined.{line_text_before}

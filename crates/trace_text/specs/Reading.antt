@@ -10,12 +10,13 @@ use Rattle.text_io.specs.declared.kinds.EventKind.{EventKind}
 use Rattle.text_io.specs.declared.kinds.EventKind.TheVariants as event
 use Rattle.text_io.specs.declared.kinds.ThrowKind.{ThrowKind}
 use Rattle.text_io.specs.declared.kinds.LimitKind.{LimitKind}
+use Rattle.text_io.specs.Kinds.{named, event_of, throw_of, limit_of}
 use Rattle.script_model.specs.TraceLines.{FiredEvent, FiredResize, FiredScroll, FiredChange, FiredError, Intersection, TraceLine, TickLine, TimerLine, FrameLine, TaskLine, EventLine, ResizeLine, RoundLine, IntersectLine, TakeLine, SayLine, ReadLine, ThrowLine, LimitLine, SyntaxLine}
 use Rattle.script_model.specs.TraceText.{bool_text, meets_text, loop_error}
 use Rattle.trace_text.specs.declared.kinds.LineKind.{LineKind}
 use Rattle.trace_text.specs.declared.kinds.LineKind.TheVariants as kind
 use Rattle.trace_text.specs.Fields.{is_field_byte}
-use Rattle.trace_text.specs.Kinds.{named, kind_of, event_of, throw_of, limit_of}
+use Rattle.trace_text.specs.Kinds.{kind_of}
 
 infixl 10 ◌>>=◌
 abbrev pub ◌>>=◌ : {A B : Type 0} → Option A → (A → Option B) → Option B

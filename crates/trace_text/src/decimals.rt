@@ -1,10 +1,10 @@
 //! Numbers in decimal, each in the one way that it is written.
 
-ghost use Rattle.std.specs.Prelude.{◌≡◌, ◌-◌, ◌^◌, ◌<◌, ◌≤◌, length, IfSome, MatchOption};
-ghost use Rattle.std.specs.List.{list_all, prefix_len};
-ghost use Rattle.word_model.specs.Names.{is_digit};
-ghost use Rattle.word_model.specs.Numbers.{digits_value, begins_with, is_whole, leading_digits, behind_digits};
+ghost use Rattle.std.specs.Prelude.{◌≡◌, ◌-◌, ◌^◌, ◌<◌, ◌≤◌, IfSome, MatchOption};
+ghost use Rattle.word_model.specs.Numbers.{digits_value};
 ghost use Rattle.trace_text.specs.Reading.{number_of, ratio_of, whole_of};
+
+use word_model::{is_whole, split_digits};
 
 /// The greatest whole number with a sign.
 const MOST: u128 = 1 << 50;
@@ -24,33 +24,6 @@ fn value_of(digits: &[u8]) -> Option<u128>
     Some(value)
 }
 
-/// Whether the field is `0`, or digits without a leading zero.
-#[tactic(auto, using(word_model::proofs::Forms::is_whole_is))]
-fn is_whole(field: &[u8]) -> bool
-    ensures { result ≡ is_whole field.now }
-{
-    if field.is_empty() || (begins_with(field, b'0') && field.len() > 1) {
-        return false;
-    }
-    are_digits(field)
-}
-
-#[tactic(auto, unfolding(word_model::specs::Numbers::begins_with))]
-fn begins_with(text: &[u8], byte: u8) -> bool
-    ensures { result ≡ begins_with byte text.now }
-{
-    match text {
-        [first, ..] => *first == byte,
-        [] => false,
-    }
-}
-
-fn are_digits(field: &[u8]) -> bool
-    ensures { result ≡ list_all is_digit field.now }
-{
-    field.iter().all(|byte| word_model::is_digit(*byte))
-}
-
 /// The number, at most this one, whose decimal text the field is.
 #[tactic(auto, using(word_model::proofs::Values::above, word_model::proofs::Values::not_above), unfolding(crate::specs::Reading::number_of))]
 pub fn number_of(field: &[u8], most: u128) -> Option<u128>
@@ -62,24 +35,6 @@ pub fn number_of(field: &[u8], most: u128) -> Option<u128>
     }
     let value = value_of(field)?;
     if value > most { None } else { Some(value) }
-}
-
-/// The digits that the text begins with, and what stands behind them.
-#[tactic(auto, unfolding(word_model::specs::Numbers::leading_digits, word_model::specs::Numbers::behind_digits))]
-pub fn split_digits(text: &[u8]) -> (&[u8], &[u8])
-    ensures digits { result.0.now ≡ leading_digits text.now }
-    ensures behind { result.1.now ≡ behind_digits text.now }
-{
-    text.split_at(digit_count(text))
-}
-
-fn digit_count(text: &[u8]) -> usize
-    ensures count { result ≡ prefix_len is_digit text.now }
-    ensures bound { result ≤ length text.now }
-{
-    text.iter()
-        .take_while(|byte| word_model::is_digit(**byte))
-        .count()
 }
 
 /// The two numbers that the field has with a `/` between them.

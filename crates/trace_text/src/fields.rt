@@ -3,14 +3,13 @@
 ghost use Rattle.std.specs.Prelude.{◌≡◌, ◌-◌, ◌^◌, ◌≤◌, length, IfSome};
 ghost use Rattle.std.specs.List.{prefix_len};
 ghost use Rattle.px_units.specs.Rects.{InReach};
+ghost use Rattle.text_io.specs.Kinds.{event_of};
 ghost use Rattle.script_model.specs.TraceText.{loop_error};
 ghost use Rattle.trace_text.specs.Fields.{is_field_byte};
-ghost use Rattle.trace_text.specs.Kinds.{event_of};
 ghost use Rattle.trace_text.specs.Reading.{field_of, behind_field, field_at, value_at, behind_word, behind_text, behind_space, name_at, names_at, window_of, window_at, number_at, ratio_at, bool_of, bool_at, meets_of, meets_at, pixels_at, whole_at, point_at, size_at, device_at, edge_of, rect_of, rect_at, behind, throw_at, limit_at};
 ghost use Rattle.trace_text.specs.Views.{read_of, same, behind_of};
 
 use crate::decimals::{number_of, ratio_of, whole_of};
-use crate::kinds::{event_named, limit_named, throw_named};
 use crate::lengths::pixels_of;
 use px_units::{Point, Rect, Size};
 use text_io::{EventKind, LimitKind, Name, ThrowKind};
@@ -158,7 +157,7 @@ pub fn ratio_at(text: &[u8]) -> Option<((u128, u128), &[u8])>
     Some((ratio, rest))
 }
 
-#[tactic(auto, unfolding(crate::specs::Reading::bool_of, crate::specs::Kinds::named))]
+#[tactic(auto, unfolding(crate::specs::Reading::bool_of, text_io::specs::Kinds::named))]
 fn bool_of(field: &[u8]) -> Option<bool>
     ensures { result ≡ bool_of field.now }
 {
@@ -181,7 +180,7 @@ pub fn bool_at(text: &[u8]) -> Option<(bool, &[u8])>
     Some((value, rest))
 }
 
-#[tactic(auto, unfolding(crate::specs::Reading::meets_of, crate::specs::Kinds::named))]
+#[tactic(auto, unfolding(crate::specs::Reading::meets_of, text_io::specs::Kinds::named))]
 fn meets_of(field: &[u8]) -> Option<bool>
     ensures { result ≡ meets_of field.now }
 {
@@ -208,7 +207,7 @@ pub fn event_kind_at(text: &[u8]) -> Option<(EventKind, &[u8])>
     ensures { read_of same result ≡ value_at event_of text.now }
 {
     let (field, rest) = field_at(text)?;
-    let kind = event_named(field)?;
+    let kind = EventKind::named(field)?;
     Some((kind, rest))
 }
 
@@ -217,7 +216,7 @@ pub fn throw_at(text: &[u8]) -> Option<(ThrowKind, &[u8])>
     ensures { read_of same result ≡ throw_at text.now }
 {
     let (field, rest) = field_at(text)?;
-    let kind = throw_named(field)?;
+    let kind = ThrowKind::named(field)?;
     Some((kind, rest))
 }
 
@@ -226,7 +225,7 @@ pub fn limit_at(text: &[u8]) -> Option<(LimitKind, &[u8])>
     ensures { read_of same result ≡ limit_at text.now }
 {
     let (field, rest) = field_at(text)?;
-    let kind = limit_named(field)?;
+    let kind = LimitKind::named(field)?;
     Some((kind, rest))
 }
 

@@ -1,15 +1,14 @@
-//! The kinds of lines, events, exceptions and limits by their words.
+//! The kinds of lines by their words.
 
 ghost use Rattle.std.specs.Prelude.{◌≡◌};
 ghost use Rattle.script_model.specs.TraceText.{kind_text};
 ghost use Rattle.trace_text.specs.Seen.{seen_line};
-ghost use Rattle.trace_text.specs.Kinds.{kind_word, kind_of, event_of, throw_of, limit_of};
+ghost use Rattle.trace_text.specs.Kinds.{kind_word, kind_of};
 
 use crate::TraceLine;
-use text_io::{EventKind, LimitKind, ThrowKind};
 
 /// The kind of a line, its first field.
-#[derive(Clone, Copy)]
+#[derive(Clone, Copy, Debug, PartialEq, Eq)]
 pub enum LineKind {
     Tick,
     Timer,
@@ -27,62 +26,26 @@ pub enum LineKind {
     Syntax,
 }
 
-const LINES: [LineKind; 14] = [
-    LineKind::Tick,
-    LineKind::Timer,
-    LineKind::Frame,
-    LineKind::Task,
-    LineKind::Event,
-    LineKind::Resize,
-    LineKind::Round,
-    LineKind::Intersect,
-    LineKind::Take,
-    LineKind::Say,
-    LineKind::Read,
-    LineKind::Throw,
-    LineKind::Limit,
-    LineKind::Syntax,
-];
-
-const EVENTS: [EventKind; 4] = [
-    EventKind::Resize,
-    EventKind::Scroll,
-    EventKind::Error,
-    EventKind::Change,
-];
-
-const THROWS: [ThrowKind; 6] = [
-    ThrowKind::ReferenceError,
-    ThrowKind::TypeError,
-    ThrowKind::HierarchyRequestError,
-    ThrowKind::NotFoundError,
-    ThrowKind::SyntaxError,
-    ThrowKind::RangeError,
-];
-
-const LIMITS: [LimitKind; 19] = [
-    LimitKind::Script,
-    LimitKind::Line,
-    LimitKind::Handlers,
-    LimitKind::Nesting,
-    LimitKind::Commands,
-    LimitKind::Nodes,
-    LimitKind::Depth,
-    LimitKind::Documents,
-    LimitKind::ResizeObservers,
-    LimitKind::IntersectionObservers,
-    LimitKind::ResizeObservations,
-    LimitKind::IntersectionObservations,
-    LimitKind::Listeners,
-    LimitKind::Timers,
-    LimitKind::FrameCallbacks,
-    LimitKind::Tasks,
-    LimitKind::Queries,
-    LimitKind::Recorded,
-    LimitKind::Pages,
-];
-
 impl LineKind {
+    /// In the order of a summary.
+    pub const ALL: [LineKind; 14] = [
+        LineKind::Tick,
+        LineKind::Timer,
+        LineKind::Frame,
+        LineKind::Task,
+        LineKind::Event,
+        LineKind::Resize,
+        LineKind::Round,
+        LineKind::Intersect,
+        LineKind::Take,
+        LineKind::Say,
+        LineKind::Read,
+        LineKind::Throw,
+        LineKind::Limit,
+        LineKind::Syntax,
+    ];
+
+    /// The word for it.
     pub fn text(&self) -> &'static str
         ensures { result.now ≡ kind_word self.now }
     {
@@ -104,6 +67,7 @@ impl LineKind {
         }
     }
 
+    /// The kind of a line.
     pub fn of(line: &TraceLine) -> LineKind
         ensures { kind_word result ≡ kind_text (seen_line line.now) }
     {
@@ -125,47 +89,14 @@ impl LineKind {
         }
     }
 
-    /// The kind with this word.
-    #[tactic(auto, unfolding(crate::specs::Kinds::named))]
+    /// The kind that this word names.
+    #[tactic(auto, unfolding(text_io::specs::Kinds::named))]
     pub fn named(word: &[u8]) -> Option<LineKind>
         ensures { result ≡ kind_of word.now }
     {
-        LINES
+        LineKind::ALL
             .iter()
             .copied()
             .find(|kind| kind.text().as_bytes() == word)
     }
-}
-
-/// The event with this name.
-#[tactic(auto, unfolding(crate::specs::Kinds::named))]
-pub fn event_named(word: &[u8]) -> Option<EventKind>
-    ensures { result ≡ event_of word.now }
-{
-    EVENTS
-        .iter()
-        .copied()
-        .find(|kind| kind.text().as_bytes() == word)
-}
-
-/// The exception with this name.
-#[tactic(auto, unfolding(crate::specs::Kinds::named))]
-pub fn throw_named(word: &[u8]) -> Option<ThrowKind>
-    ensures { result ≡ throw_of word.now }
-{
-    THROWS
-        .iter()
-        .copied()
-        .find(|kind| kind.text().as_bytes() == word)
-}
-
-/// The limit with this word.
-#[tactic(auto, unfolding(crate::specs::Kinds::named))]
-pub fn limit_named(word: &[u8]) -> Option<LimitKind>
-    ensures { result ≡ limit_of word.now }
-{
-    LIMITS
-        .iter()
-        .copied()
-        .find(|kind| kind.text().as_bytes() == word)
 }

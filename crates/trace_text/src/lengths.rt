@@ -4,7 +4,8 @@ ghost use Rattle.std.specs.Prelude.{◌≡◌, ◌-◌, ◌<◌, ◌≤◌, ◌^
 ghost use Rattle.px_units.specs.Rects.{InReach};
 ghost use Rattle.trace_text.specs.Reading.{are_decimals, sixty_fourths, decimals_of, rest_of, magnitude_of, pixels_of};
 
-use crate::decimals::{number_of, split_digits};
+use crate::decimals::number_of;
+use word_model::split_digits;
 
 /// The greatest length, 2^50 units, and the whole pixels that it has.
 const MOST: u64 = 1 << 50;

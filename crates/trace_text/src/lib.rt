@@ -9,12 +9,13 @@ mod lengths;
 mod read;
 mod write;
 
+pub use kinds::LineKind;
 pub use laws::{line_ends_once, text_has_one_line, value_is_a_line};
 use px_units::{Point, Rect, Size};
 pub use read::read_line;
 use text_io::{LimitKind, Name, ThrowKind};
 use thiserror::Error;
-pub use write::write_line;
+pub use write::{push_field, push_number, push_rect, write_line};
 
 /// An event that is fired.
 #[derive(Clone, Copy, Debug, PartialEq, Eq)]
@@ -86,6 +87,6 @@ pub enum TraceLine {
 #[derive(Clone, Copy, Debug, PartialEq, Eq, Error)]
 pub enum TraceFault {
     /// No line has this text.
-    #[error("NotALine")]
+    #[error("not the text of a trace line")]
     NotALine,
 }

@@ -33,7 +33,8 @@ pub fn write_line(alloc: Global, line: &TraceLine, into: &mut Vec<u8>) -> Result
     into.extend_from_slice(text.as_slice())
 }
 
-fn push_field(out: &mut Vec<u8>, field: &[u8]) -> Result<(), AllocError>
+/// Appends a field behind a space.
+pub fn push_field(out: &mut Vec<u8>, field: &[u8]) -> Result<(), AllocError>
     ensures { OnOk result (out.new.items ≡ with_fields out.old.items (field.now ∷ [])) }
 {
     out.push(b' ')?;
@@ -55,7 +56,8 @@ fn push_window(out: &mut Vec<u8>, document: &Name) -> Result<(), AllocError>
     out.extend_from_slice(document.bytes())
 }
 
-fn push_number(out: &mut Vec<u8>, number: u128) -> Result<(), AllocError>
+/// Appends a number in decimal behind a space.
+pub fn push_number(out: &mut Vec<u8>, number: u128) -> Result<(), AllocError>
     ensures { OnOk result (out.new.items ≡ with_fields out.old.items (decimal number ∷ [])) }
 {
     out.push(b' ')?;
@@ -101,7 +103,8 @@ fn push_ratio(out: &mut Vec<u8>, part: u128, whole: u128) -> Result<(), AllocErr
     push_decimal(out, whole)
 }
 
-fn push_rect(out: &mut Vec<u8>, rect: &Rect) -> Result<(), AllocError>
+/// Appends a rectangle's left and top edge, its width and its height, each behind a space.
+pub fn push_rect(out: &mut Vec<u8>, rect: &Rect) -> Result<(), AllocError>
     requires { RectReaches rect.now }
     ensures { OnOk result (out.new.items ≡ with_fields out.old.items (rect_fields rect.now)) }
 {

@@ -1,4 +1,4 @@
-ghost use Rattle.std.specs.Prelude.{◌≡◌};
+ghost use Rattle.std.specs.Prelude.{◌≡◌, ◌<◌, ◌≤◌, length, IsTrue};
 ghost use Rattle.std.specs.List.{list_all};
 ghost use Rattle.word_model.specs.Names.{is_letter, is_digit, is_name_byte, is_name};
 
@@ -32,7 +32,9 @@ fn are_name_bytes(bytes: &[u8]) -> bool
 /// Whether the word is a name: a letter, then up to 31 letters, digits, `_` or `-`.
 #[tactic(auto, using(crate::proofs::Slices::name_split))]
 pub fn is_name(word: &[u8]) -> bool
-    ensures { result ≡ is_name word.now }
+    ensures value { result ≡ is_name word.now }
+    ensures some { IsTrue result → 0 < length word.now }
+    ensures within { IsTrue result → length word.now ≤ 32 }
 {
     match word {
         [first, rest @ ..] => {

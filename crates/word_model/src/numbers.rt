@@ -74,7 +74,7 @@ fn formed(text: &[u8], most: usize, places: u32, unit: &[u8]) -> Option<u64>
     }
 }
 
-/// The same, none where the number as written is above the bound too.
+/// The number of a text of this form, as `formed` has it. None also where the number as written is above the bound.
 #[tactic(auto, using(crate::proofs::Forms::form_of_is, crate::proofs::Values::above, crate::proofs::Values::not_above))]
 fn bounded(text: &[u8], bound: u64, most: usize, places: u32, unit: &[u8]) -> Option<u64>
     requires most { most ≤ 9 }
@@ -164,7 +164,7 @@ pub fn number(word: &[u8]) -> Option<i64>
 
 /// Whether the word is `0`, or digits without a leading zero.
 #[tactic(auto, using(crate::proofs::Forms::is_whole_is))]
-fn is_whole(word: &[u8]) -> bool
+pub fn is_whole(word: &[u8]) -> bool
     ensures { result ≡ is_whole word.now }
 {
     if word.is_empty() || (begins_with(word, b'0') && word.len() > 1) {

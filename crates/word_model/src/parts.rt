@@ -26,7 +26,7 @@ fn digit_count(text: &[u8]) -> usize
 
 /// The digits that the text begins with, and what stands behind them.
 #[tactic(auto, using(crate::proofs::Values::leading_all), unfolding(crate::specs::Numbers::behind_digits))]
-fn split_digits(text: &[u8]) -> (&[u8], &[u8])
+pub fn split_digits(text: &[u8]) -> (&[u8], &[u8])
     ensures digits { result.0.now ≡ leading_digits text.now }
     ensures all { IsTrue (list_all is_digit result.0.now) }
     ensures behind { result.1.now ≡ behind_digits text.now }

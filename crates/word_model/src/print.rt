@@ -3,7 +3,7 @@ ghost use Rattle.word_model.specs.Numbers.{decimal};
 
 use std::alloc::AllocError;
 
-/// Writes a number in decimal at the buffer's end, and answers where it begins there.
+/// Writes a number in decimal at the end of the buffer, and answers where it begins.
 fn write_decimal(buffer: &mut [u8; 39], value: u128) -> usize
     ensures text { drop result buffer.new ≡ decimal value }
     ensures bound { result ≤ 39 }

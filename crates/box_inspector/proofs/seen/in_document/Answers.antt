@@ -17,7 +17,7 @@ pub returns-clause-value : goal.returns-clause-value
 returns-clause-value c =
     moved c
     ∙ ap (λ (own : Rect). shifted c.args.part (neg_ℤ own.left) (neg_ℤ own.top)) c.bounds-own.ensures.bounds
-    ∙ moved_from c.args.shown.now c.document_of.result c.args.part
+    ∙ moved_from c.args.shown.now c.document_of.result.0 c.args.part
     ∙ ap (λ document. moved_back (origin c.args.shown.now document) c.args.part) c.document_of.ensures
 
 pub returns-clause-reach : goal.returns-clause-reach

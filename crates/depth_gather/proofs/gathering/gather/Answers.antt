@@ -7,5 +7,5 @@ use Rattle.depth_gather.proofs.gathering.gather.Goals as goal
 
 pub active_number-requires : goal.active_number-requires
 active_number-requires g c =
-    subst (λ (it : HeldObservers). active_count c.args.document it.part ≤ resize_observations it.part) (sym c.gather_all.ensures.gathered)
-    (active_within (g.Z.Sizes.sight c.args.sizes.now) c.args.document c.args.depth c.args.observers.now.part)
+    subst (λ (it : HeldObservers). active_count c.args.document.0 it.part ≤ resize_observations it.part) (sym c.gather_all.ensures.gathered)
+    (active_within (g.Z.Sizes.sight c.args.sizes.now) c.args.document.0 c.args.depth c.args.observers.now.part)

@@ -7,7 +7,7 @@ use Rattle.depth_gather.proofs.turns.has_skipped.Given as goal
 
 abbrev pub invariant-loop-observer : goal.invariant-loop-observer
 invariant-loop-observer l =
-    list_any (λ (it : ResizeObserver). is_filled it.skipped) (drop l.place (its_of l.document l.observers.part)) ≡ has_skipped l.document l.observers.part
+    list_any (λ (it : ResizeObserver). is_filled it.skipped) (drop l.place (its_of l.document.0 l.observers.part)) ≡ has_skipped l.document.0 l.observers.part
 
 abbrev pub decreases-loop-observer : goal.decreases-loop-observer
-decreases-loop-observer l = length (its_of l.document l.observers.part) - l.place
+decreases-loop-observer l = length (its_of l.document.0 l.observers.part) - l.place

@@ -4,7 +4,7 @@ use Rattle.depth_gather.specs.Deliveries.{turn_from}
 use Rattle.depth_gather.proofs.turns.next_turn.Given as goal
 
 abbrev pub invariant-loop-observer : goal.invariant-loop-observer
-invariant-loop-observer l = turn_from l.document l.at l.observers.part ≡ turn_from l.document l.place l.observers.part
+invariant-loop-observer l = turn_from l.document.0 l.at l.observers.part ≡ turn_from l.document.0 l.place l.observers.part
 
 abbrev pub decreases-loop-observer : goal.decreases-loop-observer
-decreases-loop-observer l = length (observers_of l.observers.part l.document) - l.at
+decreases-loop-observer l = length (observers_of l.observers.part l.document.0) - l.at

@@ -23,7 +23,7 @@ pub loop-handler-preserved : goal.loop-handler-preserved
 loop-handler-preserved g c = (
   go_on _ refl
       (rest_same
-      (next_called (handlers_in c.args.script.now.items) c.loop-handler.dispatch c.loop-handler.page.world (seen_target c.args.target) c.callback_of-document.result.0 c.in-Some.handler.0
+      (next_called (handlers_in c.args.script.now.items) c.loop-handler.dispatch c.loop-handler.page.world (seen_target c.args.target) c.callback_of-document.result.0.0 c.in-Some.handler.0
       c.next_listener.new.dispatch c.loop-handler.invariant.1 c.in-Some.ensures.value c.in-Some.ensures.left c.callback_of-document.ensures.document)
       c.loop-handler.invariant.0)
       c.in_ok-run_handler.ensures,
@@ -37,7 +37,7 @@ returns-in_err-run_handler-clause-says g c =
     stopped_run c.from_residual.result c.in_err-run_handler.field-0.0 c.from_residual.ensures
     (end_cut c.in_err-run_handler.field-0.0 _
     (rest_same
-    (next_called (handlers_in c.args.script.now.items) c.loop-handler.dispatch c.loop-handler.page.world (seen_target c.args.target) c.callback_of-document.result.0 c.in-Some.handler.0
+    (next_called (handlers_in c.args.script.now.items) c.loop-handler.dispatch c.loop-handler.page.world (seen_target c.args.target) c.callback_of-document.result.0.0 c.in-Some.handler.0
     c.next_listener.new.dispatch c.loop-handler.invariant.1 c.in-Some.ensures.value c.in-Some.ensures.left c.callback_of-document.ensures.document)
     c.loop-handler.invariant.0)
     c.in_err-run_handler.ensures)

@@ -10,10 +10,10 @@ use Rattle.frame_update.proofs.frames.frame_steps.Given as goal
 abbrev pub invariant-loop-alloc : goal.invariant-loop-alloc
 invariant-loop-alloc g l = record {
   following :
-      Following (g.K.Sink.taken l.fn.sink) (g.K.Sink.taken l.sink) (g.K.Sink.faults l.fn.sink) (g.K.Sink.faults l.sink) (frame_steps (handlers_in l.script.items) l.document l.fn.page.world)
-      (frames_left (handlers_in l.script.items) l.document l.batch l.page.world);
+      Following (g.K.Sink.taken l.fn.sink) (g.K.Sink.taken l.sink) (g.K.Sink.faults l.fn.sink) (g.K.Sink.faults l.sink) (frame_steps (handlers_in l.script.items) l.document.0 l.fn.page.world)
+      (frames_left (handlers_in l.script.items) l.document.0 l.batch l.page.world);
   ready : IsPrepared l.script.items l.page.world;
-  own : AreOf l.document l.batch;
+  own : AreOf l.document.0 l.batch;
 }
 
 abbrev pub decreases-loop-alloc : goal.decreases-loop-alloc

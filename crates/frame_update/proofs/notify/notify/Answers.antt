@@ -17,20 +17,20 @@ use Rattle.frame_update.proofs.notify.notify.Goals as goal
 
 pub returns-then-not-is_active-clause-says : goal.returns-then-not-is_active-clause-says
 returns-then-not-is_active-clause-says g c =
-    run_same (sym (notify_dropped (handlers_in c.args.script.now.items) c.args.document c.args.page.now.world (sym c.if-not-is_active.ensures))) (silent_run refl)
+    run_same (sym (notify_dropped (handlers_in c.args.script.now.items) c.args.document.0 c.args.page.now.world (sym c.if-not-is_active.ensures))) (silent_run refl)
 
 pub loop-watcher-init : goal.loop-watcher-init
 loop-watcher-init g c = record {
   following =
       rest_same
-      (notify_listed (handlers_in c.args.script.now.items) c.args.document c.args.page.now.world c.deref-watcher-items.result.now c.notify_list.new.self.world (sym c.if-not-is_active.ensures)
+      (notify_listed (handlers_in c.args.script.now.items) c.args.document.0 c.args.page.now.world c.deref-watcher-items.result.now c.notify_list.new.self.world (sym c.if-not-is_active.ensures)
       (ap watcher_numbers c.deref-watcher-items.ensures.value ∙ c.in-Ok.ensures.list) (ap (λ (page : PageView). page.world) c.in-Ok.ensures.cleared))
       begin;
   there =
-      listed_there c.args.document c.deref-watcher-items.result.now _ c.args.page.now.world c.notify_list.new.self.world c.deref-watcher-items.ensures.value
+      listed_there c.args.document.0 c.deref-watcher-items.result.now _ c.args.page.now.world c.notify_list.new.self.world c.deref-watcher-items.ensures.value
       (ap (λ (page : PageView). page.world) c.in-Ok.ensures.cleared) c.in-Ok.ensures.made;
   ready =
-      still_prepared c.args.script.now.items (with_first (Notify c.args.document) c.args.page.now.world) c.notify_list.new.self.world c.in-Ok.ensures.ready c.requires.ready;
+      still_prepared c.args.script.now.items (with_first (Notify c.args.document.0) c.args.page.now.world) c.notify_list.new.self.world c.in-Ok.ensures.ready c.requires.ready;
 }
 
 pub returns-in_err-notify_watcher-clause-says : goal.returns-in_err-notify_watcher-clause-says

@@ -13,7 +13,7 @@ abbrev pub invariant-loop-watcher : goal.invariant-loop-watcher
 invariant-loop-watcher g l = record {
   following :
       Following (g.K.Sink.taken l.fn.sink) (g.K.Sink.taken l.sink) (g.K.Sink.faults l.fn.sink) (g.K.Sink.faults l.sink)
-      (notify (handlers_in l.script.items) l.document l.fn.page.world)
+      (notify (handlers_in l.script.items) l.document.0 l.fn.page.world)
       (for_each (λ (item : WatcherId). notify_watcher (handlers_in l.script.items) (item.0)) (drop l.watcher-index l.watcher-items) l.page.world);
   there : AreThere l.page.world l.watcher-items;
   ready : IsPrepared l.script.items l.page.world;

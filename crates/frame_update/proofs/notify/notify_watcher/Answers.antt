@@ -38,12 +38,12 @@ pub returns-clause-says : goal.returns-clause-says
 returns-clause-says g c =
     turn_run (handlers_in c.args.script.now.items) c.args.watcher.0 c.args.page.now.world c.take_records-records.new.self.world c.take_records-records.result c.take_records-records.ensures.value
     (filled_seen seen_entry c.as_slice.result.now c.take_records-records.result c.as_slice.ensures (sym c.if-is_empty.ensures))
-    (ap (λ (page : PageView). page.world) c.take_records-records.ensures.taken) c.callback_of-document.result.0 (option_map (λ it. it.0) c.callback_of-document.result.1)
+    (ap (λ (page : PageView). page.world) c.take_records-records.ensures.taken) c.callback_of-document.result.0.0 (option_map (λ it. it.0) c.callback_of-document.result.1)
     c.callback_of-document.ensures.document c.callback_of-document.ensures.handler c.run_handler.result c.run_handler.ensures
 
 pub returns-clause-ready : goal.returns-clause-ready
 returns-clause-ready g c =
-    turn_ready c.args.script.now.items c.callback_of-document.result.0 (option_map (λ it. it.0) c.callback_of-document.result.1) (CutEntries c.args.watcher.0 c.take_records-records.result)
+    turn_ready c.args.script.now.items c.callback_of-document.result.0.0 (option_map (λ it. it.0) c.callback_of-document.result.1) (CutEntries c.args.watcher.0 c.take_records-records.result)
     c.take_records-records.new.self.world c.run_handler.new.page.world c.run_handler.result
     (records_handed c.args.watcher.0 c.args.page.now.world c.take_records-records.new.self.world (ap (λ (page : PageView). page.world) c.take_records-records.ensures.taken)
     c.take_records-records.result c.requires.made c.take_records-records.ensures.written).targets

@@ -9,7 +9,7 @@ use Rattle.frame_update.proofs.Ready.{still_prepared}
 use Rattle.frame_update.proofs.rounds.broadcast.Goals as goal
 
 pub loop-alloc-init : goal.loop-alloc-init
-loop-alloc-init g c = broadcast_begins c.args.script.now.items c.args.document _ _ c.args.page.now.world c.requires.ready
+loop-alloc-init g c = broadcast_begins c.args.script.now.items c.args.document.0 _ _ c.args.page.now.world c.requires.ready
 
 pub returns-in_default-clause-says : goal.returns-in_default-clause-says
 returns-in_default-clause-says g c = end_memory c.loop-alloc.invariant.following
@@ -29,13 +29,13 @@ call_observer-requires-clause-ready g c =
 pub call_observer-requires-clause-observer : goal.call_observer-requires-clause-observer
 call_observer-requires-clause-observer g c =
     let it = c.in-Ok.ensures in
-    handed_made c.args.document c.loop-alloc.place c.loop-alloc.page.world c.next_delivery.new.self.world c.in-Some.delivery
+    handed_made c.args.document.0 c.loop-alloc.place c.loop-alloc.page.world c.next_delivery.new.self.world c.in-Some.delivery
     (handed_out _ _ _ _ c.in-Ok.next c.in-Some.delivery c.in-Some.is it.turn it.entries (ap (λ (page : PageView). page.world) it.reported) it.made it.some)
 
 pub call_observer-requires-clause-entries : goal.call_observer-requires-clause-entries
 call_observer-requires-clause-entries g c =
     let it = c.in-Ok.ensures in
-    handed_entries c.args.document c.loop-alloc.place c.loop-alloc.page.world c.next_delivery.new.self.world c.in-Some.delivery
+    handed_entries c.args.document.0 c.loop-alloc.place c.loop-alloc.page.world c.next_delivery.new.self.world c.in-Some.delivery
     (handed_out _ _ _ _ c.in-Ok.next c.in-Some.delivery c.in-Some.is it.turn it.entries (ap (λ (page : PageView). page.world) it.reported) it.made it.some)
     c.args.script.now.items c.loop-alloc.invariant.ready
 
@@ -43,7 +43,7 @@ pub loop-alloc-smaller : goal.loop-alloc-smaller
 loop-alloc-smaller g c =
     let it = c.in-Ok.ensures in
     let handed =
-    handed_out c.args.document c.loop-alloc.place c.loop-alloc.page.world c.next_delivery.new.self.world c.in-Ok.next c.in-Some.delivery c.in-Some.is it.turn it.entries
+    handed_out c.args.document.0 c.loop-alloc.place c.loop-alloc.page.world c.next_delivery.new.self.world c.in-Ok.next c.in-Some.delivery c.in-Some.is it.turn it.entries
     (ap (λ (page : PageView). page.world) it.reported) it.made it.some in
     omega (arith, place_few c.loop-alloc.invariant, place_past c.loop-alloc.invariant handed)
 
@@ -51,7 +51,7 @@ pub loop-alloc-preserved : goal.loop-alloc-preserved
 loop-alloc-preserved g c =
     let it = c.in-Ok.ensures in
     let handed =
-    handed_out c.args.document c.loop-alloc.place c.loop-alloc.page.world c.next_delivery.new.self.world c.in-Ok.next c.in-Some.delivery c.in-Some.is it.turn it.entries
+    handed_out c.args.document.0 c.loop-alloc.place c.loop-alloc.page.world c.next_delivery.new.self.world c.in-Ok.next c.in-Some.delivery c.in-Some.is it.turn it.entries
     (ap (λ (page : PageView). page.world) it.reported) it.made it.some in
     rw c.shallower-least.ensures
     (broadcast_on c.loop-alloc.invariant handed (sym c.loop-alloc-test.ensures) (c.entries_are_those_of_a_broadcast.ensures.entries (sight_of c.loop-alloc.page.world) (active_at c.loop-alloc.page.world.resize_observers c.in-Some.delivery.observer.0)) c.least_depth.ensures c.in_ok-call_observer.ensures.says c.in_ok-call_observer.ensures.ready)
@@ -60,7 +60,7 @@ pub returns-in_err-call_observer-clause-says : goal.returns-in_err-call_observer
 returns-in_err-call_observer-clause-says g c =
     let it = c.in-Ok.ensures in
     let handed =
-    handed_out c.args.document c.loop-alloc.place c.loop-alloc.page.world c.next_delivery.new.self.world c.in-Ok.next c.in-Some.delivery c.in-Some.is it.turn it.entries
+    handed_out c.args.document.0 c.loop-alloc.place c.loop-alloc.page.world c.next_delivery.new.self.world c.in-Ok.next c.in-Some.delivery c.in-Some.is it.turn it.entries
     (ap (λ (page : PageView). page.world) it.reported) it.made it.some in
     stopped_run c.from_residual.result c.in_err-call_observer.field-0.0 c.from_residual.ensures
     (broadcast_cut c.loop-alloc.invariant handed (sym c.loop-alloc-test.ensures) (c.entries_are_those_of_a_broadcast.ensures.entries (sight_of c.loop-alloc.page.world) (active_at c.loop-alloc.page.world.resize_observers c.in-Some.delivery.observer.0)) c.least_depth.ensures c.in_err-call_observer.field-0.0 c.in_err-call_observer.ensures.says)

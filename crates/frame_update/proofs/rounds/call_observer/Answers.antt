@@ -18,7 +18,7 @@ end_delivery-requires g c = called_within _ _ _ _ _ _ c.in_ok-run_handler.ensure
 pub returns-clause-ready : goal.returns-clause-ready
 returns-clause-ready g c =
     let called =
-    ready_called c.args.script.now.items c.args.document _ _ c.args.page.now.world c.run_handler.new.page.world
+    ready_called c.args.script.now.items c.args.document.0 _ _ c.args.page.now.world c.run_handler.new.page.world
     (are_handed c.args.page.now.world c.args.delivery.observer.0 c.args.delivery.entries c.requires.observer c.requires.entries c.requires.lengths).targets
     c.in_ok-run_handler.ensures.ended.state_is c.requires.ready in
     elim c.if-is_active.branch [

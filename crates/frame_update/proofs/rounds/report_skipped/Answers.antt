@@ -10,10 +10,10 @@ pub returns-then-not-is_active-clause-says : goal.returns-then-not-is_active-cla
 returns-then-not-is_active-clause-says g c =
     run_same
     (elim c.then-not-is_active.branch [
-      | then-not-is_active-via-then-not-is_active w ↦ unreported_left (handlers_in c.args.script.now.items) c.args.document c.args.page.now.world (sym w.if-not-is_active.ensures)
-      | then-not-is_active-via-else-not-is_active+then-not-has_skipped w ↦ unreported_none (handlers_in c.args.script.now.items) c.args.document c.args.page.now.world (sym w.if-not-has_skipped.ensures)
+      | then-not-is_active-via-then-not-is_active w ↦ unreported_left (handlers_in c.args.script.now.items) c.args.document.0 c.args.page.now.world (sym w.if-not-is_active.ensures)
+      | then-not-is_active-via-else-not-is_active+then-not-has_skipped w ↦ unreported_none (handlers_in c.args.script.now.items) c.args.document.0 c.args.page.now.world (sym w.if-not-has_skipped.ensures)
     ])
     (silent_run refl)
 
 pub label-requires : goal.label-requires
-label-requires g c = active-in c.args.page.now.world.tree c.args.document (sym c.if-not-is_active.ensures)
+label-requires g c = active-in c.args.page.now.world.tree c.args.document.0 (sym c.if-not-is_active.ensures)

@@ -8,7 +8,7 @@ pub loop-gathered-init : goal.loop-gathered-init
 loop-gathered-init g c =
     let it = c.resize_loops_come_to_rest.ensures in
     let laws : AreLaws = record { gathered = it.gathered; falls = it.falls; begins = it.begins; unrolled = it.unrolled; ended = it.ended; loops = it.loops } in
-    loop_begins laws c.args.script.now.items c.args.document _ _ c.args.page.now.world c.gather-gathered.new.page.world c.gather-gathered.result c.requires.ready c.requires.active
+    loop_begins laws c.args.script.now.items c.args.document.0 _ _ c.args.page.now.world c.gather-gathered.new.page.world c.gather-gathered.result c.requires.ready c.requires.active
     (ap (λ (page : PageView). page.world) c.gather-gathered.ensures.gathered) c.gather-gathered.ensures.active
 
 pub round-requires : goal.round-requires

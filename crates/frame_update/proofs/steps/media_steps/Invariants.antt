@@ -10,8 +10,8 @@ use Rattle.frame_update.proofs.steps.media_steps.Given as goal
 abbrev pub invariant-loop-alloc : goal.invariant-loop-alloc
 invariant-loop-alloc g l =
     Following (g.K.Sink.taken l.fn.sink) (g.K.Sink.taken l.sink) (g.K.Sink.faults l.fn.sink) (g.K.Sink.faults l.sink)
-    (media_steps (handlers_in l.script.items) l.document l.fn.page.world)
-    (turns_from (handlers_in l.script.items) l.document l.place l.page.world)
+    (media_steps (handlers_in l.script.items) l.document.0 l.fn.page.world)
+    (turns_from (handlers_in l.script.items) l.document.0 l.place l.page.world)
     × IsPrepared l.script.items l.page.world
 
 abbrev pub decreases-loop-alloc : goal.decreases-loop-alloc

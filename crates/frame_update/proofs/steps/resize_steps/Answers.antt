@@ -8,7 +8,7 @@ use Rattle.frame_update.proofs.steps.resize_steps.Goals as goal
 pub returns-then-not-viewport_changed-clause-says : goal.returns-then-not-viewport_changed-clause-says
 returns-then-not-viewport_changed-clause-says g c =
     run_same
-    (noted_again c.args.document c.args.page.now.world c.viewport_changed.new.self.world c.if-not-viewport_changed.ensures.noted (handlers_in c.args.script.now.items)
+    (noted_again c.args.document.0 c.args.page.now.world c.viewport_changed.new.self.world c.if-not-viewport_changed.ensures.noted (handlers_in c.args.script.now.items)
     c.if-not-viewport_changed.ensures.value)
     (silent_run refl)
 
@@ -17,7 +17,7 @@ returns-then-not-viewport_changed-clause-ready g c =
     still_prepared c.args.script.now.items c.args.page.now.world c.viewport_changed.new.self.world c.if-not-viewport_changed.ensures.ready c.requires.ready
 
 pub label-requires : goal.label-requires
-label-requires g c = noted_there c.args.document c.args.page.now.world c.viewport_changed.new.self.world c.if-not-viewport_changed.ensures.noted c.requires.active
+label-requires g c = noted_there c.args.document.0 c.args.page.now.world c.viewport_changed.new.self.world c.if-not-viewport_changed.ensures.noted c.requires.active
 
 pub fire-requires : goal.fire-requires
 fire-requires g c = record {
@@ -27,6 +27,6 @@ fire-requires g c = record {
 pub returns-clause-says : goal.returns-clause-says
 returns-clause-says g c =
     run_same
-    (noted_anew c.args.document c.args.page.now.world c.viewport_changed.new.self.world c.if-not-viewport_changed.ensures.noted (handlers_in c.args.script.now.items) c.label.result c.label.ensures
+    (noted_anew c.args.document.0 c.args.page.now.world c.viewport_changed.new.self.world c.if-not-viewport_changed.ensures.noted (handlers_in c.args.script.now.items) c.label.result c.label.ensures
     c.if-not-viewport_changed.ensures.value)
     c.fire.ensures.says

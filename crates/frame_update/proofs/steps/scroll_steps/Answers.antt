@@ -13,10 +13,10 @@ use Rattle.frame_update.proofs.steps.scroll_steps.Goals as goal
 pub loop-target-init : goal.loop-target-init
 loop-target-init g c = (
   rest_same
-      (scrolls_taken (handlers_in c.args.script.now.items) c.args.document c.deref-target-items.result.now c.args.page.now.world c.take_scrolled-scrolled.new.self.world
+      (scrolls_taken (handlers_in c.args.script.now.items) c.args.document.0 c.deref-target-items.result.now c.args.page.now.world c.take_scrolled-scrolled.new.self.world
       (ap seen_targets c.deref-target-items.ensures.value ∙ c.take_scrolled-scrolled.ensures.value) (ap (λ (page : PageView). page.world) c.take_scrolled-scrolled.ensures.taken))
       begin,
-  taken_there c.args.script.now.items c.args.document c.deref-target-items.result.now c.args.page.now.world c.take_scrolled-scrolled.new.self.world c.requires.ready
+  taken_there c.args.script.now.items c.args.document.0 c.deref-target-items.result.now c.args.page.now.world c.take_scrolled-scrolled.new.self.world c.requires.ready
       (ap seen_targets c.deref-target-items.ensures.value ∙ c.take_scrolled-scrolled.ensures.value) (ap (λ (page : PageView). page.world) c.take_scrolled-scrolled.ensures.taken),
   still_prepared c.args.script.now.items c.args.page.now.world c.take_scrolled-scrolled.new.self.world c.take_scrolled-scrolled.ensures.ready c.requires.ready,
 )
@@ -34,7 +34,7 @@ returns-in_err-scroll_step-clause-says g c =
     stopped_run c.from_residual.result c.in_err-scroll_step.field-0.0 c.from_residual.ensures
     (end_cut c.in_err-scroll_step.field-0.0 _
     (rest_same
-    (each_more (λ item. scroll_one (handlers_in c.args.script.now.items) c.args.document (seen_target item)) c.deref-target-items.result.now c.loop-target.target-index _
+    (each_more (λ item. scroll_one (handlers_in c.args.script.now.items) c.args.document.0 (seen_target item)) c.deref-target-items.result.now c.loop-target.target-index _
     c.loop-target.page.world c.loop-target-test.true (get_or_default c.deref-target-items.result.now c.loop-target.target-index _ _ c.loop-target-test.true))
     c.loop-target.invariant.0)
     c.in_err-scroll_step.ensures.says)
@@ -43,11 +43,11 @@ pub loop-target-preserved : goal.loop-target-preserved
 loop-target-preserved g c = (
   go_on _ refl
       (rest_same
-      (each_more (λ item. scroll_one (handlers_in c.args.script.now.items) c.args.document (seen_target item)) c.deref-target-items.result.now c.loop-target.target-index _
+      (each_more (λ item. scroll_one (handlers_in c.args.script.now.items) c.args.document.0 (seen_target item)) c.deref-target-items.result.now c.loop-target.target-index _
       c.loop-target.page.world c.loop-target-test.true (get_or_default c.deref-target-items.result.now c.loop-target.target-index _ _ c.loop-target-test.true))
       c.loop-target.invariant.0)
       c.in_ok-scroll_step.ensures.says,
-  still_there (handlers_in c.args.script.now.items) c.deref-target-items.result.now c.args.document _ c.loop-target.page.world c.scroll_step.new.page.world
+  still_there (handlers_in c.args.script.now.items) c.deref-target-items.result.now c.args.document.0 _ c.loop-target.page.world c.scroll_step.new.page.world
       c.in_ok-scroll_step.ensures.says.ended.state_is c.loop-target.invariant.1,
   c.in_ok-scroll_step.ensures.ready,
 )
@@ -56,7 +56,7 @@ pub returns-clause-says : goal.returns-clause-says
 returns-clause-says g c =
     done refl
     (rest_same
-    (each_none (λ item. scroll_one (handlers_in c.args.script.now.items) c.args.document (seen_target item)) c.deref-target-items.result.now c.loop-target.target-index c.loop-target.page.world
+    (each_none (λ item. scroll_one (handlers_in c.args.script.now.items) c.args.document.0 (seen_target item)) c.deref-target-items.result.now c.loop-target.target-index c.loop-target.page.world
     c.loop-target-test.false)
     c.loop-target.invariant.0)
 

@@ -13,7 +13,7 @@ use Rattle.frame_update.proofs.steps.scroll_steps.Given as goal
 abbrev pub invariant-loop-target : goal.invariant-loop-target
 invariant-loop-target g l =
     Following (g.K.Sink.taken l.fn.sink) (g.K.Sink.taken l.sink) (g.K.Sink.faults l.fn.sink) (g.K.Sink.faults l.sink)
-    (scroll_steps (handlers_in l.script.items) l.document l.fn.page.world)
-    (for_each (λ item. scroll_one (handlers_in l.script.items) l.document (seen_target item)) (drop l.target-index l.target-items) l.page.world)
+    (scroll_steps (handlers_in l.script.items) l.document.0 l.fn.page.world)
+    (for_each (λ item. scroll_one (handlers_in l.script.items) l.document.0 (seen_target item)) (drop l.target-index l.target-items) l.page.world)
     × AllByRecursion (IsThere l.page.world) l.target-items
     × IsPrepared l.script.items l.page.world

@@ -29,7 +29,7 @@ loop-timer-smaller g c =
 pub loop-timer-preserved : goal.loop-timer-preserved
 loop-timer-preserved g c = record {
   following = timers_go_on (handlers_in c.args.script.now.items) c.loop-timer.due c.loop-timer.page.world c.loop-timer.invariant.following
-      c.in-Some.timer.0 c.in-Some.timer.1 c.in-Some.timer.2.0 c.next_timer.new.self.world c.run_timer.new.page.world
+      c.in-Some.timer.0.0 c.in-Some.timer.1 c.in-Some.timer.2.0 c.next_timer.new.self.world c.run_timer.new.page.world
       c.in-Some.ensures.value (ap (λ (page : PageView). page.world) c.next_timer.ensures.removed) c.in_ok-run_timer.field-0 _ c.next_timer.ensures.left c.in_ok-run_timer.ensures.says;
   ready = c.in_ok-run_timer.ensures.ready;
 }
@@ -38,7 +38,7 @@ pub returns-in_err-run_timer-clause-says : goal.returns-in_err-run_timer-clause-
 returns-in_err-run_timer-clause-says g c =
     stopped_run c.from_residual.result c.in_err-run_timer.field-0.0 c.from_residual.ensures
     (timers_cut (handlers_in c.args.script.now.items) c.loop-timer.due c.loop-timer.page.world c.loop-timer.invariant.following
-    c.in-Some.timer.0 c.in-Some.timer.1 c.in-Some.timer.2.0 c.next_timer.new.self.world c.run_timer.new.page.world
+    c.in-Some.timer.0.0 c.in-Some.timer.1 c.in-Some.timer.2.0 c.next_timer.new.self.world c.run_timer.new.page.world
     c.in-Some.ensures.value (ap (λ (page : PageView). page.world) c.next_timer.ensures.removed) c.in_err-run_timer.field-0.0 c.in_err-run_timer.ensures.says)
 
 pub returns-clause-says : goal.returns-clause-says

@@ -11,7 +11,7 @@ pub returns-in-Ok-clause-says : goal.returns-in-Ok-clause-says
 returns-in-Ok-clause-says g c =
     run_same
     (ap (λ (page : PageView). silent (page.world)) c.in-Ok.ensures.updated
-    ∙ ap (λ part. part_of (handlers_in c.args.script.now.items) part c.args.document c.args.page.now.world) (sym c.in-Intersections.is))
+    ∙ ap (λ part. part_of (handlers_in c.args.script.now.items) part c.args.document.0 c.args.page.now.world) (sym c.in-Intersections.is))
     (silent_run refl)
 
 pub returns-in-Ok-clause-ready : goal.returns-in-Ok-clause-ready

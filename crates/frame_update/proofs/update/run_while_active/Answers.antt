@@ -7,10 +7,10 @@ use Rattle.frame_update.proofs.update.run_while_active.Goals as goal
 
 pub returns-then-not-is_active-clause-says : goal.returns-then-not-is_active-clause-says
 returns-then-not-is_active-clause-says g c =
-    run_same (sym (while_active_rests c.args.document (part_of (handlers_in c.args.script.now.items) c.args.part c.args.document) c.args.page.now.world (sym c.if-not-is_active.ensures)))
+    run_same (sym (while_active_rests c.args.document.0 (part_of (handlers_in c.args.script.now.items) c.args.part c.args.document.0) c.args.page.now.world (sym c.if-not-is_active.ensures)))
     (silent_run refl)
 
 pub returns-clause-says : goal.returns-clause-says
 returns-clause-says g c =
-    run_same (sym (while_active_runs c.args.document (part_of (handlers_in c.args.script.now.items) c.args.part c.args.document) c.args.page.now.world (sym c.if-not-is_active.ensures)))
+    run_same (sym (while_active_runs c.args.document.0 (part_of (handlers_in c.args.script.now.items) c.args.part c.args.document.0) c.args.page.now.world (sym c.if-not-is_active.ensures)))
     c.run_part.ensures.says

@@ -1,6 +1,7 @@
 use Rattle.std.proofs.Common.{◌∷◌, filter_map, ap, sym, ◌∙◌}
 use Rattle.page_model.specs.Chains.{common_part}
-use Rattle.clip_chain.specs.declared.spot.Spot.TheVariants.{Node, View}
+use Rattle.clip_chain.specs.declared.spot.Spot.TheVariants.{Node}
+use Rattle.clip_chain.specs.Worlds.{view_spot}
 use Rattle.hit_test.proofs.Within.{in_part, in_nothing}
 use Rattle.hit_test.proofs.points.shows_at.Goals as goal
 
@@ -9,7 +10,7 @@ returns-in-Some g c = λ between leads.
     let scene = g.G.Geometry.scene c.args.geometry.now in
     let others = filter_map scene.clip between in
     c.has_point.ensures
-    ∙ in_part c.args.at (scene.bounds (Node c.args.node)) (scene.bounds (View 0) ∷ others) c.in-Some.part
+    ∙ in_part c.args.at (scene.bounds (Node c.args.node)) (scene.bounds (view_spot 0) ∷ others) c.in-Some.part
     (ap (λ limits. common_part (scene.bounds (Node c.args.node)) (limits ∷ others)) (sym c.bounds-screen.ensures.bounds)
     ∙ sym (c.visible_rect.ensures.part between leads)
     ∙ c.in-Some.is)
@@ -18,7 +19,7 @@ pub returns-in-None : goal.returns-in-None
 returns-in-None g c = λ between leads.
     let scene = g.G.Geometry.scene c.args.geometry.now in
     let others = filter_map scene.clip between in
-    in_nothing c.args.at (scene.bounds (Node c.args.node)) (scene.bounds (View 0) ∷ others)
+    in_nothing c.args.at (scene.bounds (Node c.args.node)) (scene.bounds (view_spot 0) ∷ others)
     (ap (λ limits. common_part (scene.bounds (Node c.args.node)) (limits ∷ others)) (sym c.bounds-screen.ensures.bounds)
     ∙ sym (c.visible_rect.ensures.part between leads)
     ∙ c.in-None.is)

@@ -12,4 +12,4 @@ returns-then-not-holds c =
     let nodes : length c.tree.result.now.nodes ≤ c.args.node.0 = not_less (c.args.node.0) (length c.tree.result.now.nodes) (sym c.if-not-holds.ensures.value) in
     let elements = ap (λ (page : PageElements). length page.tree.elements) c.tree.ensures.value in
     let past : length tree.elements ≤ c.args.node.0 = omega (arith, nodes, elements, length-map c.tree.result.now.nodes (element_of carried_in)) in
-    sym (nowhere tree c.tree.ensures.framed (c.args.node.0) (c.args.document) past)
+    sym (nowhere tree c.tree.ensures.framed (c.args.node.0) (c.args.document.0) past)

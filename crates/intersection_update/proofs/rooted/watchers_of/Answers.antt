@@ -17,7 +17,7 @@ loop-number-preserved c =
       | then-is_looked_at+in_ok-push w ↦
           let items = ap (λ found. found.items) w.found-is ∙ w.in_ok-push.ensures.items in
           record {
-            numbers = next_number tree c.args.document number it true (watcher_numbers old) (watcher_numbers c.if-is_looked_at.found.items) there
+            numbers = next_number tree c.args.document.0 number it true (watcher_numbers old) (watcher_numbers c.if-is_looked_at.found.items) there
                 (sym w.if-is_looked_at.true ∙ c.is_looked_at.ensures)
                 c.loop-number.invariant.numbers (ap watcher_numbers items ∙ pushed_number old (record { 0 = number }));
             made = subst (All (λ (watcher : WatcherId). watcher.0 < length it.made)) (sym items)
@@ -27,7 +27,7 @@ loop-number-preserved c =
       | else-is_looked_at w ↦
           let items = ap (λ found. found.items) w.found-is in
           record {
-            numbers = next_number tree c.args.document number it false (watcher_numbers old) (watcher_numbers c.if-is_looked_at.found.items) there
+            numbers = next_number tree c.args.document.0 number it false (watcher_numbers old) (watcher_numbers c.if-is_looked_at.found.items) there
                 (sym w.if-is_looked_at.false ∙ c.is_looked_at.ensures)
                 c.loop-number.invariant.numbers (ap watcher_numbers items ∙ sym (append-nil (watcher_numbers old)));
             made = subst (All (λ (watcher : WatcherId). watcher.0 < length it.made)) (sym items) c.loop-number.invariant.made;

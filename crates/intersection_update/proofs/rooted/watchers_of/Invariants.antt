@@ -7,7 +7,7 @@ use Rattle.intersection_update.proofs.rooted.watchers_of.Given as goal
 
 abbrev pub invariant-loop-number : goal.invariant-loop-number
 invariant-loop-number l = record {
-  numbers : watcher_numbers l.found.items ≡ places_from 0 (λ (it : IntersectionObserver). is_rooted_in l.page.tree l.document (it.root)) (take l.number l.watchers.part.made);
+  numbers : watcher_numbers l.found.items ≡ places_from 0 (λ (it : IntersectionObserver). is_rooted_in l.page.tree l.document.0 (it.root)) (take l.number l.watchers.part.made);
   made : All (λ (watcher : WatcherId). watcher.0 < length l.watchers.part.made) l.found.items;
   end : l.number-end ≡ length l.watchers.part.made;
 }

@@ -37,14 +37,14 @@ settle_stale-requires-clause-margins g c = c.requires.margins ∙ sym c.loop-num
 pub returns-in_err-queued-clause-stopped : goal.returns-in_err-queued-clause-stopped
 returns-in_err-queued-clause-stopped g c =
     on_err c.from_residual-in_err-queued.result
-    (stopped_at c.args.shown.now c.args.scroll_margins.now c.args.shown.now.tree c.args.document c.args.time c.args.watchers.now c.loop-number.number c.loop-number.watchers c.settle_stale.new.watchers
+    (stopped_at c.args.shown.now c.args.scroll_margins.now c.args.shown.now.tree c.args.document.0 c.args.time c.args.watchers.now c.loop-number.number c.loop-number.watchers c.settle_stale.new.watchers
     c.loop-number.invariant.kept.given c.loop-number.invariant.settled c.in_err-queued.ensures.stopped)
 
 pub returns-in_err-queued-clause-touched : goal.returns-in_err-queued-clause-touched
 returns-in_err-queued-clause-touched g c =
     let shown = c.args.shown.now in
     let margins = c.args.scroll_margins.now in
-    let document = c.args.document in
+    let document = c.args.document.0 in
     let was = c.args.watchers.now.part in
     let it = c.loop-number.watchers.part in
     let number = c.loop-number.number in
@@ -57,7 +57,7 @@ pub returns-in_err-queued-clause-left : goal.returns-in_err-queued-clause-left
 returns-in_err-queued-clause-left g c =
     let shown = c.args.shown.now in
     let margins = c.args.scroll_margins.now in
-    let document = c.args.document in
+    let document = c.args.document.0 in
     let was = c.args.watchers.now.part in
     let it = c.loop-number.watchers.part in
     let number = c.loop-number.number in
@@ -70,7 +70,7 @@ pub returns-in_err-queued-clause-kept : goal.returns-in_err-queued-clause-kept
 returns-in_err-queued-clause-kept g c =
     let shown = c.args.shown.now in
     let margins = c.args.scroll_margins.now in
-    let document = c.args.document in
+    let document = c.args.document.0 in
     let was = c.args.watchers.now.part in
     let it = c.loop-number.watchers.part in
     let number = c.loop-number.number in
@@ -83,7 +83,7 @@ pub returns-in_err-queued-clause-others : goal.returns-in_err-queued-clause-othe
 returns-in_err-queued-clause-others g c =
     let shown = c.args.shown.now in
     let margins = c.args.scroll_margins.now in
-    let document = c.args.document in
+    let document = c.args.document.0 in
     let was = c.args.watchers.now.part in
     let it = c.loop-number.watchers.part in
     let number = c.loop-number.number in
@@ -97,7 +97,7 @@ pub returns-in_err-queued-clause-refused : goal.returns-in_err-queued-clause-ref
 returns-in_err-queued-clause-refused g c =
     let shown = c.args.shown.now in
     let margins = c.args.scroll_margins.now in
-    let document = c.args.document in
+    let document = c.args.document.0 in
     let was = c.args.watchers.now.part in
     let it = c.loop-number.watchers.part in
     let number = c.loop-number.number in
@@ -128,14 +128,14 @@ loop-number-preserved g c =
     let number = c.loop-number.number in
     let so_far = c.loop-number.invariant in
     let there : number < length was.part.made = omega (arith, so_far.end, c.loop-number-test.true) in
-    let looked = c.is_looked_at.ensures ∙ ap (λ (it : Tree). is_rooted_in it c.args.document (watcher_at now number).root) c.page.ensures in
+    let looked = c.is_looked_at.ensures ∙ ap (λ (it : Tree). is_rooted_in it c.args.document.0 (watcher_at now number).root) c.page.ensures in
     elim c.if-is_looked_at.branch [
       | then-is_looked_at+in_ok-queued w ↦
           let next : HeldWatchers = w.settle_stale.new.watchers in
-          let settled = w.in_ok-queued.ensures.settled ∙ rooted_settled shown margins tree c.args.document c.args.time number now (sym looked ∙ w.if-is_looked_at.true) in
+          let settled = w.in_ok-queued.ensures.settled ∙ rooted_settled shown margins tree c.args.document.0 c.args.time number now (sym looked ∙ w.if-is_looked_at.true) in
           record {
-            settled = ap (λ (it : HeldWatchers). it.part.made) w.watchers-is ∙ next_observer shown margins tree c.args.document c.args.time was number now next there so_far.settled settled;
-            queued = w.queued-is ∙ next_told shown margins tree c.args.document c.args.time was number now next c.loop-number.queued w.in_ok-queued.field-0 there
+            settled = ap (λ (it : HeldWatchers). it.part.made) w.watchers-is ∙ next_observer shown margins tree c.args.document.0 c.args.time was number now next there so_far.settled settled;
+            queued = w.queued-is ∙ next_told shown margins tree c.args.document.0 c.args.time was number now next c.loop-number.queued w.in_ok-queued.field-0 there
                 so_far.kept.carried.count so_far.settled settled so_far.queued w.in_ok-queued.ensures.queued;
             kept = subst (AreKept elements was) (sym w.watchers-is) (kept_then elements was now next so_far.kept w.settle_stale.ensures.kept);
             registered = subst (λ (it : HeldWatchers). AreRegistered it.part margins c.if-is_looked_at.findings) (sym w.watchers-is)
@@ -143,16 +143,16 @@ loop-number-preserved g c =
             room = subst (HaveRoom elements documents) (sym w.findings-is) w.settle_stale.ensures.room;
             known = subst (λ (it : HeldFindings). HaveLooked shown it.seen c.if-is_looked_at.looks) (sym w.findings-is)
                 (subst (λ (it : LookedAt). HaveLooked shown w.settle_stale.new.findings.seen it) (sym w.looks-is) w.settle_stale.ensures.known);
-            looks = subst (Looks shown c.args.document was.part (number + 1) c.args.findings.now) (sym w.findings-is)
-                (looks_more shown c.args.document was.part now.part so_far.kept.carried number c.args.findings.now c.loop-number.findings w.settle_stale.new.findings (sym looked ∙ w.if-is_looked_at.true) so_far.looks w.settle_stale.ensures.looked);
+            looks = subst (Looks shown c.args.document.0 was.part (number + 1) c.args.findings.now) (sym w.findings-is)
+                (looks_more shown c.args.document.0 was.part now.part so_far.kept.carried number c.args.findings.now c.loop-number.findings w.settle_stale.new.findings (sym looked ∙ w.if-is_looked_at.true) so_far.looks w.settle_stale.ensures.looked);
             leaves = λ chained.
-                subst (λ (it : HeldFindings). Leaves shown margins chained c.args.document was.part (number + 1) c.args.findings.now.kept it.kept) (sym w.findings-is)
-                (leaves_more shown margins chained c.args.document was.part now.part so_far.kept.carried number c.args.findings.now.kept c.loop-number.findings.kept w.settle_stale.new.findings.kept (so_far.leaves chained)
+                subst (λ (it : HeldFindings). Leaves shown margins chained c.args.document.0 was.part (number + 1) c.args.findings.now.kept it.kept) (sym w.findings-is)
+                (leaves_more shown margins chained c.args.document.0 was.part now.part so_far.kept.carried number c.args.findings.now.kept c.loop-number.findings.kept w.settle_stale.new.findings.kept (so_far.leaves chained)
                 (w.settle_stale.ensures.same chained) w.settle_stale.ensures.others (sym looked ∙ w.if-is_looked_at.true) (w.in_ok-queued.ensures.fresh chained) (w.in_ok-queued.ensures.rest chained));
             totals = λ chained.
-                subst (Totals shown margins chained c.args.document was.part (number + 1) c.args.findings.now c.if-is_looked_at.findings c.args.steps.now) (sym w.steps-is)
-                (subst (λ (it : HeldFindings). Totals shown margins chained c.args.document was.part (number + 1) c.args.findings.now it c.args.steps.now w.settle_stale.new.steps) (sym w.findings-is)
-                (totals_more shown margins chained c.args.document was.part now.part so_far.kept.carried number c.args.findings.now c.loop-number.findings w.settle_stale.new.findings c.args.steps.now c.loop-number.steps w.settle_stale.new.steps
+                subst (Totals shown margins chained c.args.document.0 was.part (number + 1) c.args.findings.now c.if-is_looked_at.findings c.args.steps.now) (sym w.steps-is)
+                (subst (λ (it : HeldFindings). Totals shown margins chained c.args.document.0 was.part (number + 1) c.args.findings.now it c.args.steps.now w.settle_stale.new.steps) (sym w.findings-is)
+                (totals_more shown margins chained c.args.document.0 was.part now.part so_far.kept.carried number c.args.findings.now c.loop-number.findings w.settle_stale.new.findings c.args.steps.now c.loop-number.steps w.settle_stale.new.steps
                 there (sym looked ∙ w.if-is_looked_at.true) (so_far.totals chained) w.clips.ensures.numbered w.settle_stale.ensures.looked.touched w.settle_stale.ensures.others w.in_ok-queued.ensures.pairs
                 w.in_ok-queued.ensures.listed (w.in_ok-queued.ensures.paid chained)));
             computed = subst (λ (it : HeldFindings). KeepsComputed c.args.findings.now.clips it.clips) (sym w.findings-is)
@@ -160,25 +160,25 @@ loop-number-preserved g c =
             end = so_far.end;
           }
       | else-is_looked_at w ↦
-          let settled = rooted_same shown margins tree c.args.document c.args.time number now (sym looked ∙ w.if-is_looked_at.false) in
+          let settled = rooted_same shown margins tree c.args.document.0 c.args.time number now (sym looked ∙ w.if-is_looked_at.false) in
           record {
-            settled = ap (λ (it : HeldWatchers). it.part.made) w.watchers-is ∙ next_observer shown margins tree c.args.document c.args.time was number now now there so_far.settled settled;
-            queued = w.queued-is ∙ skipped_told shown margins tree c.args.document c.args.time was number now c.loop-number.queued there so_far.kept.carried.count so_far.settled settled so_far.queued;
+            settled = ap (λ (it : HeldWatchers). it.part.made) w.watchers-is ∙ next_observer shown margins tree c.args.document.0 c.args.time was number now now there so_far.settled settled;
+            queued = w.queued-is ∙ skipped_told shown margins tree c.args.document.0 c.args.time was number now c.loop-number.queued there so_far.kept.carried.count so_far.settled settled so_far.queued;
             kept = subst (AreKept elements was) (sym w.watchers-is) so_far.kept;
             registered = subst (λ (it : HeldWatchers). AreRegistered it.part margins c.if-is_looked_at.findings) (sym w.watchers-is)
                 (subst (λ (it : HeldFindings). AreRegistered now.part margins it) (sym w.findings-is) so_far.registered);
             room = subst (HaveRoom elements documents) (sym w.findings-is) so_far.room;
             known = subst (λ (it : HeldFindings). HaveLooked shown it.seen c.if-is_looked_at.looks) (sym w.findings-is)
                 (subst (λ (it : LookedAt). HaveLooked shown c.loop-number.findings.seen it) (sym w.looks-is) so_far.known);
-            looks = subst (Looks shown c.args.document was.part (number + 1) c.args.findings.now) (sym w.findings-is)
-                (looks_skip shown c.args.document was.part now.part so_far.kept.carried number c.args.findings.now c.loop-number.findings (sym looked ∙ w.if-is_looked_at.false) so_far.looks);
+            looks = subst (Looks shown c.args.document.0 was.part (number + 1) c.args.findings.now) (sym w.findings-is)
+                (looks_skip shown c.args.document.0 was.part now.part so_far.kept.carried number c.args.findings.now c.loop-number.findings (sym looked ∙ w.if-is_looked_at.false) so_far.looks);
             leaves = λ chained.
-                subst (λ (it : HeldFindings). Leaves shown margins chained c.args.document was.part (number + 1) c.args.findings.now.kept it.kept) (sym w.findings-is)
-                (leaves_skip shown margins chained c.args.document was.part now.part so_far.kept.carried number c.args.findings.now.kept c.loop-number.findings.kept (sym looked ∙ w.if-is_looked_at.false) (so_far.leaves chained));
+                subst (λ (it : HeldFindings). Leaves shown margins chained c.args.document.0 was.part (number + 1) c.args.findings.now.kept it.kept) (sym w.findings-is)
+                (leaves_skip shown margins chained c.args.document.0 was.part now.part so_far.kept.carried number c.args.findings.now.kept c.loop-number.findings.kept (sym looked ∙ w.if-is_looked_at.false) (so_far.leaves chained));
             totals = λ chained.
-                subst (Totals shown margins chained c.args.document was.part (number + 1) c.args.findings.now c.if-is_looked_at.findings c.args.steps.now) (sym w.steps-is)
-                (subst (λ (it : HeldFindings). Totals shown margins chained c.args.document was.part (number + 1) c.args.findings.now it c.args.steps.now c.loop-number.steps) (sym w.findings-is)
-                (totals_skip shown margins chained c.args.document was.part now.part so_far.kept.carried number c.args.findings.now c.loop-number.findings c.args.steps.now c.loop-number.steps
+                subst (Totals shown margins chained c.args.document.0 was.part (number + 1) c.args.findings.now c.if-is_looked_at.findings c.args.steps.now) (sym w.steps-is)
+                (subst (λ (it : HeldFindings). Totals shown margins chained c.args.document.0 was.part (number + 1) c.args.findings.now it c.args.steps.now c.loop-number.steps) (sym w.findings-is)
+                (totals_skip shown margins chained c.args.document.0 was.part now.part so_far.kept.carried number c.args.findings.now c.loop-number.findings c.args.steps.now c.loop-number.steps
                 there (sym looked ∙ w.if-is_looked_at.false) (so_far.totals chained)));
             computed = subst (λ (it : HeldFindings). KeepsComputed c.args.findings.now.clips it.clips) (sym w.findings-is) so_far.computed;
             end = so_far.end;
@@ -187,7 +187,7 @@ loop-number-preserved g c =
 
 pub returns-clause-updated : goal.returns-clause-updated
 returns-clause-updated g c =
-    all_observers c.args.shown.now c.args.scroll_margins.now c.args.shown.now.tree c.args.document c.args.time c.args.watchers.now c.loop-number.number c.loop-number.watchers c.loop-number.invariant.kept.rest c.loop-number.invariant.kept.given
+    all_observers c.args.shown.now c.args.scroll_margins.now c.args.shown.now.tree c.args.document.0 c.args.time c.args.watchers.now c.loop-number.number c.loop-number.watchers c.loop-number.invariant.kept.rest c.loop-number.invariant.kept.given
     (omega (arith, c.loop-number.invariant.end, c.loop-number-test.false, c.loop-number.auto.number-end)) c.loop-number.invariant.settled
 
 pub returns-clause-settled : goal.returns-clause-settled
@@ -196,15 +196,15 @@ returns-clause-settled g c =
     let margins = c.args.scroll_margins.now in
     let was : HeldWatchers = c.args.watchers.now in
     let it : HeldWatchers = c.loop-number.watchers in
-    let whole : it ≡ record was { part = updated shown margins shown.tree c.args.document c.args.time (was.part) } =
-    all_observers shown margins shown.tree c.args.document c.args.time was c.loop-number.number it c.loop-number.invariant.kept.rest c.loop-number.invariant.kept.given
+    let whole : it ≡ record was { part = updated shown margins shown.tree c.args.document.0 c.args.time (was.part) } =
+    all_observers shown margins shown.tree c.args.document.0 c.args.time was c.loop-number.number it c.loop-number.invariant.kept.rest c.loop-number.invariant.kept.given
     (omega (arith, c.loop-number.invariant.end, c.loop-number-test.false, c.loop-number.auto.number-end)) c.loop-number.invariant.settled in
-    subst (AreSettled shown margins c.args.document was.part) (sym (ap (λ (all : HeldWatchers). all.part) whole))
-    (λ watcher place registration. settled_each shown margins c.args.document c.args.time watcher place registration was.part c.tell_serials.ensures)
+    subst (AreSettled shown margins c.args.document.0 was.part) (sym (ap (λ (all : HeldWatchers). all.part) whole))
+    (λ watcher place registration. settled_each shown margins c.args.document.0 c.args.time watcher place registration was.part c.tell_serials.ensures)
 
 pub returns-clause-queued : goal.returns-clause-queued
 returns-clause-queued g c =
-    all_told c.args.shown.now c.args.scroll_margins.now c.args.shown.now.tree c.args.document c.args.time c.args.watchers.now c.loop-number.number c.loop-number.queued
+    all_told c.args.shown.now c.args.scroll_margins.now c.args.shown.now.tree c.args.document.0 c.args.time c.args.watchers.now c.loop-number.number c.loop-number.queued
     (omega (arith, c.loop-number.invariant.end, c.loop-number-test.false, c.loop-number.auto.number-end)) c.loop-number.invariant.queued
 
 pub returns-clause-touched : goal.returns-clause-touched
@@ -221,10 +221,10 @@ returns-clause-seen g c =
     let it = c.loop-number.watchers.part in
     let carried = c.loop-number.invariant.kept.carried in
     λ serial looked.
-    let before = looked_at_before shown c.args.document was it carried serial looked in
+    let before = looked_at_before shown c.args.document.0 was it carried serial looked in
     along_still was it carried serial (scene_of shown) (standings_of shown) (λ spot. sighting_of c.loop-number.findings.seen spot ≡ Some (sighting_in (scene_of shown) spot))
     (c.loop-number.invariant.looks.seen serial before
-    (omega (arith, there_is shown c.args.document was serial before, c.loop-number.invariant.end, c.loop-number-test.false, c.loop-number.auto.number-end)))
+    (omega (arith, there_is shown c.args.document.0 was serial before, c.loop-number.invariant.end, c.loop-number-test.false, c.loop-number.auto.number-end)))
 
 pub returns-clause-kept : goal.returns-clause-kept
 returns-clause-kept g c = λ chained. (c.loop-number.invariant.leaves chained).same
@@ -240,14 +240,14 @@ returns-clause-fresh g c =
     let it = c.loop-number.watchers.part in
     let carried = c.loop-number.invariant.kept.carried in
     λ chained serial looked.
-    let before = looked_at_before shown c.args.document was it carried serial looked in
+    let before = looked_at_before shown c.args.document.0 was it carried serial looked in
     stale_still was it carried serial (scene_of shown) (standings_of shown) chained margins c.loop-number.findings.kept
     ∙ (c.loop-number.invariant.leaves chained).fresh serial before
-    (omega (arith, there_is shown c.args.document was serial before, c.loop-number.invariant.end, c.loop-number-test.false, c.loop-number.auto.number-end))
+    (omega (arith, there_is shown c.args.document.0 was serial before, c.loop-number.invariant.end, c.loop-number-test.false, c.loop-number.auto.number-end))
 
 pub returns-clause-ticks : goal.returns-clause-ticks
 returns-clause-ticks g c = λ chained.
-    totals_all c.args.shown.now c.args.scroll_margins.now chained c.args.document c.args.watchers.now.part c.loop-number.number c.args.findings.now c.loop-number.findings c.args.steps.now c.loop-number.steps
+    totals_all c.args.shown.now c.args.scroll_margins.now chained c.args.document.0 c.args.watchers.now.part c.loop-number.number c.args.findings.now c.loop-number.findings c.args.steps.now c.loop-number.steps
     (omega (arith, c.loop-number.invariant.end, c.loop-number-test.false, c.loop-number.auto.number-end)) (c.loop-number.invariant.totals chained)
 
 pub returns-in_err-queued-clause-computed : goal.returns-in_err-queued-clause-computed

@@ -22,7 +22,7 @@ is_block-requires g c =
 pub returns-in-Some-clause-value : goal.returns-in-Some-clause-value
 returns-in-Some-clause-value g c =
     let at = layout_tree g.P.Styled.style g.P.Styled.kind c.args.tree.now.nodes in
-    c.is_block.ensures
+    c.is_block.ensures.value
     ∙ sym (ap (λ parent. not (at (c.args.node.0)).item.style.hidden && is_inside at parent) (parent_is g.P.Styled.style g.P.Styled.kind c.args.tree.now.nodes (c.args.node.0) ∙ some_of_ids _ c.in-Some.parent (sym c.parent.ensures.value ∙ c.in-Some.is))
     ∙ ap (λ hidden. not hidden && is_inside at (Some (c.in-Some.parent.0))) (sym c.is_hidden.ensures.value ∙ c.if-is_hidden.false))
 

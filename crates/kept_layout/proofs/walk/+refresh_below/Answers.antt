@@ -80,7 +80,7 @@ loop-next-preserved g t c =
             (going_shown at shape short node (seen_inputs c.args.inputs) (length c.args.slots.now) (slot_in c.args.slots.now) c.args.steps.now child kid.here (sym c.is_hidden.ensures.value ∙ w.if-not-is_hidden.true)
             (slot_in c.loop-next.slots) (slot_in w.set_above.new.slots) _ _ c.loop-next.above c.loop-next.outside c.loop-next.steps ahead longer
             (λ low. w.set_above.ensures.own (omega arith)) w.set_above.ensures.others c.loop-next.invariant.going
-            (sym w.is_in_flow.ensures.value ∙ w.if-is_in_flow.true) (slot_in w.refresh_below.new.slots) c.if-not-is_hidden.above c.if-not-is_hidden.outside c.if-not-is_hidden.steps
+            (sym w.is_in_flow.ensures ∙ w.if-is_in_flow.true) (slot_in w.refresh_below.new.slots) c.if-not-is_hidden.above c.if-not-is_hidden.outside c.if-not-is_hidden.steps
             (refreshed_as at child _ _ _ _ _ _ _ _ _ inner (omega arith) w.steps-is w.refresh_below.ensures)
             (w.above-is ∙ w.added-above.ensures.value ∙ ap (λ h. cap (c.loop-next.above + h)) w.height_held.ensures.value)
             (w.outside-is ∙ w.if-outside.true ∙ sym (ap (λ b. b || outside_found (slot_in w.refresh_below.new.slots child).found) w.if-outside.true)))
@@ -89,7 +89,7 @@ loop-next-preserved g t c =
             (going_shown at shape short node (seen_inputs c.args.inputs) (length c.args.slots.now) (slot_in c.args.slots.now) c.args.steps.now child kid.here (sym c.is_hidden.ensures.value ∙ w.if-not-is_hidden.true)
             (slot_in c.loop-next.slots) (slot_in w.set_above.new.slots) _ _ c.loop-next.above c.loop-next.outside c.loop-next.steps ahead longer
             (λ low. w.set_above.ensures.own (omega arith)) w.set_above.ensures.others c.loop-next.invariant.going
-            (sym w.is_in_flow.ensures.value ∙ w.if-is_in_flow.true) (slot_in w.refresh_below.new.slots) c.if-not-is_hidden.above c.if-not-is_hidden.outside c.if-not-is_hidden.steps
+            (sym w.is_in_flow.ensures ∙ w.if-is_in_flow.true) (slot_in w.refresh_below.new.slots) c.if-not-is_hidden.above c.if-not-is_hidden.outside c.if-not-is_hidden.steps
             (refreshed_as at child _ _ _ _ _ _ _ _ _ inner (omega arith) w.steps-is w.refresh_below.ensures)
             (w.above-is ∙ w.added-above.ensures.value ∙ ap (λ h. cap (c.loop-next.above + h)) w.height_held.ensures.value)
             (w.outside-is ∙ w.has_outside-outside.ensures ∙ sym (ap (λ b. b || outside_found (slot_in w.refresh_below.new.slots child).found) w.if-outside.false)))
@@ -98,7 +98,7 @@ loop-next-preserved g t c =
             (going_moved at shape short node (seen_inputs c.args.inputs) (length c.args.slots.now) (slot_in c.args.slots.now) c.args.steps.now child kid.here (sym c.is_hidden.ensures.value ∙ w.if-not-is_hidden.true)
             (slot_in c.loop-next.slots) (slot_in w.set_above.new.slots) _ _ c.loop-next.above c.loop-next.outside c.loop-next.steps ahead longer
             (λ low. w.set_above.ensures.own (omega arith)) w.set_above.ensures.others c.loop-next.invariant.going
-            (sym w.is_in_flow.ensures.value ∙ w.if-is_in_flow.false) c.if-not-is_hidden.above w.above-is c.if-not-is_hidden.outside w.outside-is)
+            (sym w.is_in_flow.ensures ∙ w.if-is_in_flow.false) c.if-not-is_hidden.above w.above-is c.if-not-is_hidden.outside w.outside-is)
         | else-not-is_hidden w ↦
             going_like at node (seen_inputs c.args.inputs) (length c.args.slots.now) (slot_in c.args.slots.now) _ _ _ _ _ _ _ c.args.steps.now _ _ (ap slot_in w.slots-is) w.above-is w.outside-is w.steps-is
             (going_hidden at shape short node (seen_inputs c.args.inputs) (length c.args.slots.now) (slot_in c.args.slots.now) c.args.steps.now (slot_in c.loop-next.slots)

@@ -13,18 +13,18 @@ use Rattle.page_boxes.proofs.layout.+lay_out_up.Goals as goal
 
 pub returns-then-high-eq0-clause-marked : goal.returns-then-high-eq0-clause-marked
 returns-then-high-eq0-clause-marked g t c active =
-    absurd (no_way c.args.page.now.tree c.requires.framed c.args.high c.args.document c.if-high-eq0.true (c.requires.leads active))
+    absurd (no_way c.args.page.now.tree c.requires.framed c.args.high c.args.document.0 c.if-high-eq0.true (c.requires.leads active))
 
 pub returns-then-high-eq0-clause-above : goal.returns-then-high-eq0-clause-above
 returns-then-high-eq0-clause-above g t c active =
-    absurd (no_way c.args.page.now.tree c.requires.framed c.args.high c.args.document c.if-high-eq0.true (c.requires.leads active))
+    absurd (no_way c.args.page.now.tree c.requires.framed c.args.high c.args.document.0 c.if-high-eq0.true (c.requires.leads active))
 
 pub lay_out_up-requires : goal.lay_out_up-requires
 lay_out_up-requires g t c κs within =
     let tree = c.args.page.now.tree in
     let active = sym c.is_active.ensures.value ∙ c.if-not-is_active.false in
     let is = sym c.frame_of.ensures.value ∙ ap (option_map number) c.in-Some.is in
-    let less = way_less tree c.requires.framed c.args.document (c.in-Some.frame.0) is c.args.high (c.args.high - 1) (omega arith) (c.requires.leads active) in (
+    let less = way_less tree c.requires.framed c.args.document.0 (c.in-Some.frame.0) is c.args.high (c.args.high - 1) (omega arith) (c.requires.leads active) in (
       omega arith,
       (
         within,
@@ -51,7 +51,7 @@ lay_out_once-requires-clause-around g t c frame is =
     let same : c.in-Some.frame.0 ≡ frame = cc (sym there ∙ is) in
     subst (IsFreshIn tree (seen_screen c.args.screen) c.lay_out_up.new.boxes)
     (c.document_of-holder.ensures ∙ ap (λ n. (element_at tree n).document) same)
-    (fresh_in tree (seen_screen c.args.screen) c.lay_out_up.new.laid_out c.lay_out_up.new.boxes c.lay_out_up.ensures.goes.laid_out c.document_of-holder.result
+    (fresh_in tree (seen_screen c.args.screen) c.lay_out_up.new.laid_out c.lay_out_up.new.boxes c.lay_out_up.ensures.goes.laid_out c.document_of-holder.result.0
     c.lay_out_up.ensures.marked)
 
 pub returns-in-Some-clause-above : goal.returns-in-Some-clause-above
@@ -61,14 +61,14 @@ returns-in-Some-clause-above g t c active frame is =
     let same : c.in-Some.frame.0 ≡ frame = cc (sym there ∙ is) in
     subst (IsFreshIn tree (seen_screen c.args.screen) c.lay_out_once.new.boxes)
     (c.document_of-holder.ensures ∙ ap (λ n. (element_at tree n).document) same)
-    (fresh_in tree (seen_screen c.args.screen) c.lay_out_once.new.laid_out c.lay_out_once.new.boxes c.lay_out_once.ensures.goes.laid_out c.document_of-holder.result
-    (λ shown. c.lay_out_once.ensures.goes.more c.document_of-holder.result (c.lay_out_up.ensures.marked shown)))
+    (fresh_in tree (seen_screen c.args.screen) c.lay_out_once.new.laid_out c.lay_out_once.new.boxes c.lay_out_once.ensures.goes.laid_out c.document_of-holder.result.0
+    (λ shown. c.lay_out_once.ensures.goes.more c.document_of-holder.result.0 (c.lay_out_up.ensures.marked shown)))
 
 pub returns-in-Some-clause-left : goal.returns-in-Some-clause-left
 returns-in-Some-clause-left g t c =
     let tree = c.args.page.now.tree in
     let there = sym c.frame_of.ensures.value ∙ ap (option_map number) c.in-Some.is in
-    changes_on tree c.args.document c.args.high (c.args.high - 1) (omega arith) c.requires.framed (c.in-Some.frame.0) there
+    changes_on tree c.args.document.0 c.args.high (c.args.high - 1) (omega arith) c.requires.framed (c.in-Some.frame.0) there
     c.args.boxes.now c.lay_out_up.new.boxes c.lay_out_once.new.boxes
     (subst (λ holder. ChangesOnlyIn tree (way_down (c.args.high - 1) tree holder) c.args.boxes.now c.lay_out_up.new.boxes) c.document_of-holder.ensures
     c.lay_out_up.ensures.left)
@@ -76,6 +76,6 @@ returns-in-Some-clause-left g t c =
 
 pub returns-in-None-clause-left : goal.returns-in-None-clause-left
 returns-in-None-clause-left g t c =
-    changes_first c.args.page.now.tree c.args.document c.args.high (c.args.high - 1) (omega arith)
+    changes_first c.args.page.now.tree c.args.document.0 c.args.high (c.args.high - 1) (omega arith)
     (sym c.frame_of.ensures.value ∙ ap (option_map number) c.in-None.is)
     c.args.boxes.now c.lay_out_once-in-None.new.boxes c.lay_out_once-in-None.ensures.left

@@ -20,18 +20,18 @@ pub returns-in_default-clause-laid_out : goal.returns-in_default-clause-laid_out
 returns-in_default-clause-laid_out g c =
     let tree = c.args.page.now.tree in
     let screen = seen_screen c.args.screen in
-    let found = framed_size tree screen (view_of tree screen) (document_at tree c.args.document).frame in
+    let found = framed_size tree screen (view_of tree screen) (document_at tree c.args.document.0).frame in
     let none = sym c.root.ensures.value ∙ ap (option_map number) c.in_default.is in
-    rootless_laid_out tree screen c.args.document
-    (rootless_here tree c.root.ensures.framed screen c.args.document c.requires.active found refl (no_root (document_at tree c.args.document).root found none))
+    rootless_laid_out tree screen c.args.document.0
+    (rootless_here tree c.root.ensures.framed screen c.args.document.0 c.requires.active found refl (no_root (document_at tree c.args.document.0).root found none))
     c.args.boxes.now
 
 pub returns-in_default-framed_size-clause-laid_out : goal.returns-in_default-framed_size-clause-laid_out
 returns-in_default-framed_size-clause-laid_out g c =
     let tree = c.args.page.now.tree in
     let screen = seen_screen c.args.screen in
-    rootless_laid_out tree screen c.args.document
-    (rootless_here tree c.root.ensures.framed screen c.args.document c.requires.active None (c.in_default-framed_size.ensures.value c.requires.around) refl)
+    rootless_laid_out tree screen c.args.document.0
+    (rootless_here tree c.root.ensures.framed screen c.args.document.0 c.requires.active None (c.in_default-framed_size.ensures.value c.requires.around) refl)
     c.args.boxes.now
 
 -- the tree of its root element
@@ -56,9 +56,9 @@ returns-clause-laid_out g c =
     let shown = c.in-Some-framed_size.ensures.value c.requires.around in
     let at = layout_tree style_in kind_in c.tree.result.now.nodes in
     let rooted = sym c.root.ensures.value ∙ ap (option_map number) c.in-Some.is in
-    let ready = ready_before tree framed screen c.args.document c.requires.active pair shown at c.tree.ensures.nodes c.in-Some.root.0 rooted
+    let ready = ready_before tree framed screen c.args.document.0 c.requires.active pair shown at c.tree.ensures.nodes c.in-Some.root.0 rooted
     c.args.boxes.now c.requires.kept in
-    laid_out_here tree framed screen c.args.document c.requires.active pair shown at c.tree.ensures.nodes c.in-Some.root.0 rooted
+    laid_out_here tree framed screen c.args.document.0 c.requires.active pair shown at c.tree.ensures.nodes c.in-Some.root.0 rooted
     _ c.root_inputs.ensures.seen c.refresh.new.self (c.refresh.ensures.fresh ready) (c.refresh.ensures.done ready)
 
 pub returns-clause-others : goal.returns-clause-others
@@ -70,7 +70,7 @@ returns-clause-others g c =
     let shown = c.in-Some-framed_size.ensures.value c.requires.around in
     let at = layout_tree style_in kind_in c.tree.result.now.nodes in
     let rooted = sym c.root.ensures.value ∙ ap (option_map number) c.in-Some.is in
-    others_here tree framed screen c.args.document c.requires.active pair shown at c.tree.ensures.nodes c.in-Some.root.0 rooted
+    others_here tree framed screen c.args.document.0 c.requires.active pair shown at c.tree.ensures.nodes c.in-Some.root.0 rooted
     _ c.root_inputs.ensures.seen c.args.boxes.now c.refresh.new.self c.refresh.ensures.others
 
 pub returns-clause-left : goal.returns-clause-left
@@ -82,7 +82,7 @@ returns-clause-left g c =
     let shown = c.in-Some-framed_size.ensures.value c.requires.around in
     let at = layout_tree style_in kind_in c.tree.result.now.nodes in
     let rooted = sym c.root.ensures.value ∙ ap (option_map number) c.in-Some.is in
-    left_here tree framed screen c.args.document c.requires.active pair shown at c.tree.ensures.nodes c.in-Some.root.0 rooted
+    left_here tree framed screen c.args.document.0 c.requires.active pair shown at c.tree.ensures.nodes c.in-Some.root.0 rooted
     _ c.root_inputs.ensures.seen c.args.boxes.now c.refresh.new.self c.refresh.ensures.others
 
 pub returns-clause-kept : goal.returns-clause-kept
@@ -94,9 +94,9 @@ returns-clause-kept g c =
     let shown = c.in-Some-framed_size.ensures.value c.requires.around in
     let at = layout_tree style_in kind_in c.tree.result.now.nodes in
     let rooted = sym c.root.ensures.value ∙ ap (option_map number) c.in-Some.is in
-    let ready = ready_before tree framed screen c.args.document c.requires.active pair shown at c.tree.ensures.nodes c.in-Some.root.0 rooted
+    let ready = ready_before tree framed screen c.args.document.0 c.requires.active pair shown at c.tree.ensures.nodes c.in-Some.root.0 rooted
     c.args.boxes.now c.requires.kept in
-    kept_here tree framed screen c.args.document c.requires.active pair shown at c.tree.ensures.nodes c.in-Some.root.0 rooted
+    kept_here tree framed screen c.args.document.0 c.requires.active pair shown at c.tree.ensures.nodes c.in-Some.root.0 rooted
     _ c.root_inputs.ensures.seen c.args.boxes.now c.refresh.new.self c.refresh.ensures.others c.requires.kept c.refresh.ensures.slots (c.refresh.ensures.ready ready)
 
 pub returns-clause-ticks : goal.returns-clause-ticks
@@ -108,10 +108,10 @@ returns-clause-ticks g c =
     let shown = c.in-Some-framed_size.ensures.value c.requires.around in
     let at = layout_tree style_in kind_in c.tree.result.now.nodes in
     let rooted = sym c.root.ensures.value ∙ ap (option_map number) c.in-Some.is in
-    let ready = ready_before tree framed screen c.args.document c.requires.active pair shown at c.tree.ensures.nodes c.in-Some.root.0 rooted
+    let ready = ready_before tree framed screen c.args.document.0 c.requires.active pair shown at c.tree.ensures.nodes c.in-Some.root.0 rooted
     c.args.boxes.now c.requires.kept in
     let paid = c.refresh.ensures.paid ready (inputs_of tree screen)
-    (inputs_inside tree framed screen c.args.document c.requires.active pair shown at c.tree.ensures.nodes c.in-Some.root.0 rooted _ c.root_inputs.ensures.seen) in
+    (inputs_inside tree framed screen c.args.document.0 c.requires.active pair shown at c.tree.ensures.nodes c.in-Some.root.0 rooted _ c.root_inputs.ensures.seen) in
     let same = ap (due_count_with (inputs_of tree screen) (slot_in c.refresh.new.self)) c.refresh.ensures.slots in
     omega (arith, paid, same)
 
@@ -129,6 +129,6 @@ returns-clause-fills g c =
     let shown = c.in-Some-framed_size.ensures.value c.requires.around in
     let at = layout_tree style_in kind_in c.tree.result.now.nodes in
     let rooted = sym c.root.ensures.value ∙ ap (option_map number) c.in-Some.is in
-    let ready = ready_before tree c.root.ensures.framed (seen_screen c.args.screen) c.args.document c.requires.active pair shown at c.tree.ensures.nodes c.in-Some.root.0 rooted
+    let ready = ready_before tree c.root.ensures.framed (seen_screen c.args.screen) c.args.document.0 c.requires.active pair shown at c.tree.ensures.nodes c.in-Some.root.0 rooted
     c.args.boxes.now c.requires.kept in
     fills_fresh at (inputs_in at c.in-Some.root.0 (seen_inputs c.root_inputs.result)) c.args.boxes.now c.refresh.new.self c.refresh.ensures.others (c.refresh.ensures.fresh ready)

@@ -9,9 +9,9 @@ pub returns-clause-goes : goal.returns-clause-goes
 returns-clause-goes g c =
     subst (λ marks. GoesOn c.args.page.now.tree (seen_screen c.args.screen) c.args.laid_out.now marks c.lay_out.new.boxes) (sym c.mark.ensures)
     (goes_on c.args.page.now.tree (seen_screen c.args.screen) c.args.laid_out.now c.requires.marks c.args.boxes.now c.lay_out.new.boxes
-    c.requires.laid_out c.args.document c.lay_out.ensures.laid_out c.lay_out.ensures.others)
+    c.requires.laid_out c.args.document.0 c.lay_out.ensures.laid_out c.lay_out.ensures.others)
 
 pub returns-clause-marked : goal.returns-clause-marked
 returns-clause-marked g c =
-    ap (λ marks. is_marked marks c.args.document) c.mark.ensures
-    ∙ marked_here c.args.laid_out.now c.args.document (omega (arith, c.requires.marks, c.requires.known))
+    ap (λ marks. is_marked marks c.args.document.0) c.mark.ensures
+    ∙ marked_here c.args.laid_out.now c.args.document.0 (omega (arith, c.requires.marks, c.requires.known))

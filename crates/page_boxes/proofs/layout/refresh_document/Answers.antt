@@ -10,8 +10,8 @@ use Rattle.page_boxes.proofs.layout.refresh_document.Goals as goal
 
 pub lay_out_up-requires-clause-leads : goal.lay_out_up-requires-clause-leads
 lay_out_up-requires-clause-leads g c active =
-    ap (λ count. first_of_list (way_down count c.args.page.now.tree c.args.document)) c.document_count-count.ensures.value
-    ∙ path_leads c.args.page.now.tree c.document_count-count.ensures.framed c.args.document active
+    ap (λ count. first_of_list (way_down count c.args.page.now.tree c.args.document.0)) c.document_count-count.ensures.value
+    ∙ path_leads c.args.page.now.tree c.document_count-count.ensures.framed c.args.document.0 active
 
 pub lay_out_up-requires-clause-laid_out : goal.lay_out_up-requires-clause-laid_out
 lay_out_up-requires-clause-laid_out g c =
@@ -20,10 +20,10 @@ lay_out_up-requires-clause-laid_out g c =
 
 pub returns-clause-fresh : goal.returns-clause-fresh
 returns-clause-fresh g c =
-    fresh_in c.args.page.now.tree (seen_screen c.args.screen) c.lay_out_up.new.laid_out c.lay_out_up.new.boxes c.lay_out_up.ensures.goes.laid_out c.args.document
+    fresh_in c.args.page.now.tree (seen_screen c.args.screen) c.lay_out_up.new.laid_out c.lay_out_up.new.boxes c.lay_out_up.ensures.goes.laid_out c.args.document.0
     c.lay_out_up.ensures.marked
 
 pub returns-clause-left : goal.returns-clause-left
 returns-clause-left g c high enough =
-    changes_more c.args.page.now.tree c.document_count-count.result high c.args.document c.args.boxes.now c.lay_out_up.new.boxes
+    changes_more c.args.page.now.tree c.document_count-count.result high c.args.document.0 c.args.boxes.now c.lay_out_up.new.boxes
     (omega (arith, c.document_count-count.ensures.value, c.document_count-count.ensures.bound)) c.lay_out_up.ensures.left

@@ -10,17 +10,17 @@ use Rattle.page_boxes.proofs.layout.refresh_in.Goals as goal
 -- a document that isn't Active
 pub returns-in-Some-clause-fresh : goal.returns-in-Some-clause-fresh
 returns-in-Some-clause-fresh g c =
-    idle_fresh c.args.page.now.tree (seen_screen c.args.screen) c.refresh_document-in-Some.new.boxes c.args.document
+    idle_fresh c.args.page.now.tree (seen_screen c.args.screen) c.refresh_document-in-Some.new.boxes c.args.document.0
     (sym c.is_active.ensures.value ∙ c.if-is_active.false)
 
 pub returns-in_default-clause-fresh : goal.returns-in_default-clause-fresh
 returns-in_default-clause-fresh g c =
-    idle_fresh c.args.page.now.tree (seen_screen c.args.screen) c.args.boxes.now c.args.document (sym c.is_active.ensures.value ∙ c.if-is_active.false)
+    idle_fresh c.args.page.now.tree (seen_screen c.args.screen) c.args.boxes.now c.args.document.0 (sym c.is_active.ensures.value ∙ c.if-is_active.false)
 
 pub returns-in-Some-clause-left : goal.returns-in-Some-clause-left
 returns-in-Some-clause-left g c =
     let tree = c.args.page.now.tree in
-    changes_on tree c.args.document 65536 65535 refl c.refresh_document-in-Some.ensures.framed (c.in-Some.frame.0)
+    changes_on tree c.args.document.0 65536 65535 refl c.refresh_document-in-Some.ensures.framed (c.in-Some.frame.0)
     (sym c.frame_of.ensures.value ∙ ap (option_map number) c.in-Some.is)
     c.args.boxes.now c.refresh_document-in-Some.new.boxes c.refresh_document-in-Some.new.boxes
     (subst (λ holder. ChangesOnlyIn tree (way_down 65535 tree holder) c.args.boxes.now c.refresh_document-in-Some.new.boxes) c.document_of.ensures

@@ -24,12 +24,12 @@ range_to-requires-clause-child g c =
     child_in_range c.in-Some.ensures.forest (c.args.node.0) (c.in-Some.child.0) (range_to-requires-clause-listed g c)
 
 pub range_to-requires-clause-scroller : goal.range_to-requires-clause-scroller
-range_to-requires-clause-scroller g c = sym c.is_scroll_container.ensures ∙ c.if-not-is_scroll_container.false
+range_to-requires-clause-scroller g c = sym c.is_scroll_container.ensures.value ∙ c.if-not-is_scroll_container.false
 
 pub returns-in-Some-clause-within : goal.returns-in-Some-clause-within
 returns-in-Some-clause-within g c view holds boxed =
     let at = layout_tree g.P.Styled.style g.P.Styled.kind c.args.tree.now.nodes in
-    subst (λ b. IsWithin (seen_pair c.range_to.result) (cond b (range_of at view (c.args.node.0)) (0, 0))) (sym c.if-not-is_scroll_container.false ∙ c.is_scroll_container.ensures) (c.range_to.ensures.within view holds boxed)
+    subst (λ b. IsWithin (seen_pair c.range_to.result) (cond b (range_of at view (c.args.node.0)) (0, 0))) (sym c.if-not-is_scroll_container.false ∙ c.is_scroll_container.ensures.value) (c.range_to.ensures.within view holds boxed)
 
 pub returns-in-None-clause-within : goal.returns-in-None-clause-within
 returns-in-None-clause-within g c view holds boxed = nothing_within _

@@ -17,7 +17,7 @@ pub returns-clause-within : goal.returns-clause-within
 returns-clause-within g c top view is holds =
     let at = layout_tree g.P.Styled.style g.P.Styled.kind c.args.tree.now.nodes in
     let root = c.args.shown.root.0 in
-    let hidden = sym c.is_hidden.ensures ∙ c.if-is_hidden.false in
+    let hidden = sym c.is_hidden.ensures.value ∙ c.if-is_hidden.false in
     let pair = seen_pair c.args.shown.size in
     let forest = c.shift-corner.ensures.forest in
     let shape = shaped g.P.Styled.style g.P.Styled.kind forest in

@@ -9,7 +9,7 @@ use Rattle.page_boxes.proofs.ranges.boxed_range.Goals as goal
 
 pub returns-then-not-is_scroll_container-clause-value : goal.returns-then-not-is_scroll_container-clause-value
 returns-then-not-is_scroll_container-clause-value g c view sized holds boxed =
-    range_none (layout_tree g.P.Styled.style g.P.Styled.kind c.args.tree.now.nodes) view (c.args.node.0) (sym c.is_scroll_container.ensures ∙ c.if-not-is_scroll_container.true)
+    range_none (layout_tree g.P.Styled.style g.P.Styled.kind c.args.tree.now.nodes) view (c.args.node.0) (sym c.is_scroll_container.ensures.value ∙ c.if-not-is_scroll_container.true)
 
 pub returns-in_default-clause-value : goal.returns-in_default-clause-value
 returns-in_default-clause-value g c view sized holds boxed =
@@ -24,7 +24,7 @@ returns-clause-value g c view sized holds boxed =
     (sym (same_measures g.P.Styled.style g.P.Styled.kind _ _ _ _ (ap (λ (t : Tree g.row.P.Denot). t.nodes) c.measures.ensures.tree) c.measures.ensures.kept))
     (c.measures.ensures.all view sized (λ m inputs is. holds.boxes m inputs is)) in
     range_boxed at view (c.args.node.0) c.args.boxes.now holds boxed
-    (sym c.is_scroll_container.ensures ∙ c.if-not-is_scroll_container.false) c.in-Some.own c.in-Some.ensures
+    (sym c.is_scroll_container.ensures.value ∙ c.if-not-is_scroll_container.false) c.in-Some.own c.in-Some.ensures
     c.reach-reach.result c.padding_size.result c.range_between.result
     (λ inputs is. c.reach-reach.ensures.container at view inputs (tree_nodes g.P.Styled.style g.P.Styled.kind c.args.tree.now.nodes) measured is)
     c.padding_size.ensures.value c.range_between.ensures.value

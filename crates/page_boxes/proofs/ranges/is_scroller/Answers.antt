@@ -11,7 +11,7 @@ is_scroll_container-requires c =
 
 pub returns-then-has_box : goal.returns-then-has_box
 returns-then-has_box c screen =
-    c.is_scroll_container.ensures
+    c.is_scroll_container.ensures.value
     ∙ ap (λ at. is_scroll_container (at (c.args.node.0))) (sym c.tree.ensures.nodes)
     ∙ sym (scroller_is c.args.page.now.tree screen (c.args.node.0) (sym (c.has_box.ensures screen) ∙ c.if-has_box.true))
 

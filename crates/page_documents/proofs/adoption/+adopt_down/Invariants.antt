@@ -10,7 +10,7 @@ decreases-adopt_down g l = l.high
 abbrev pub invariant-loop-next : goal.invariant-loop-next
 invariant-loop-next g l = record {
   among : (c : ℕ) → option_map number l.next ≡ Some c → has (children_of l.fn.tree.nodes (l.fn.node.0)) c ≡ true;
-  adopts : Adopts (g.P.Owned.carried) (g.P.Owned.adopted) l.document l.fn.tree l.tree (l.high - 1) (l.fn.node.0)
+  adopts : Adopts (g.P.Owned.carried) (g.P.Owned.adopted) l.document.0 l.fn.tree l.tree (l.high - 1) (l.fn.node.0)
       (rest_from (option_map number l.next) (children_of l.fn.tree.nodes (l.fn.node.0)));
 }
 

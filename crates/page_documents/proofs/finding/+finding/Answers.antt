@@ -1,5 +1,7 @@
 use Rattle.std.proofs.Common.{◌≡◌, ◌-◌, suc, length, option_map, Option, ap, sym, ◌∙◌, arith}
+use Rattle.element_tree.specs.declared.document.DocumentId.{DocumentId}
 use Rattle.element_tree.specs.declared.node.NodeId.{NodeId}
+use Rattle.element_tree.specs.Documents.{document_number}
 use Rattle.element_tree.specs.Forest.{children_of, rest_from}
 use Rattle.element_tree.specs.Links.{number}
 use Rattle.element_tree.proofs.Facts.{child_in_range}
@@ -13,8 +15,8 @@ use Rattle.page_documents.proofs.finding.+finding.Goals as goal
 
 pub find_from-returns-in_default : goal.find_from-returns-in_default
 find_from-returns-in_default g t c =
-    none_taken (is_in c.args.state) (seen_tree (g.P.Owned.carried) c.args.tree.now c.args.entries.now) (g.F.Finder.with) c.args.deep 0 c.args.document
-    c.args.finder.now c.in_default.is
+    none_taken (is_in c.args.state) (seen_tree (g.P.Owned.carried) c.args.tree.now c.args.entries.now) (g.F.Finder.with) c.args.deep 0 (option_map document_number c.args.document)
+    c.args.finder.now (ap (λ (o : Option DocumentId). option_map document_number o) c.in_default.is)
 
 pub find_from-returns-then-deep-eq0 : goal.find_from-returns-then-deep-eq0
 find_from-returns-then-deep-eq0 g t c = elim c.then-deep-eq0.branch [
@@ -22,8 +24,8 @@ find_from-returns-then-deep-eq0 g t c = elim c.then-deep-eq0.branch [
       late_taken (is_in c.args.state) (seen_tree (g.P.Owned.carried) c.args.tree.now c.args.entries.now) (g.F.Finder.with) c.args.deep 0 _ c.args.finder.now
       (omega (arith, w.if-deep-eq0.true))
   | find_from-then-deep-eq0-via-else-deep-eq0+then-not-is_in w ↦
-      other_taken (is_in c.args.state) (seen_tree (g.P.Owned.carried) c.args.tree.now c.args.entries.now) (g.F.Finder.with) c.args.deep 0 c.args.document
-      c.in-Some.number c.args.finder.now c.in-Some.is
+      other_taken (is_in c.args.state) (seen_tree (g.P.Owned.carried) c.args.tree.now c.args.entries.now) (g.F.Finder.with) c.args.deep 0
+      (option_map document_number c.args.document) (c.in-Some.found.0) c.args.finder.now (ap (λ (o : Option DocumentId). option_map document_number o) c.in-Some.is)
       (sym w.is_in.ensures.value ∙ w.if-not-is_in.true)
 ]
 
@@ -31,17 +33,17 @@ pub find_from-returns-in-Some-root_in : goal.find_from-returns-in-Some-root_in
 find_from-returns-in-Some-root_in g t c =
     let root = sym (ap (λ (o : Option NodeId). option_map number o) c.in-Some-root_in.is) ∙ c.root_in.ensures.value in
     then_ok c.find_in.result (full_taken (is_in c.args.state) (seen_tree (g.P.Owned.carried) c.args.tree.now c.args.entries.now) (g.F.Finder.with)
-    c.args.deep 0 c.args.document c.in-Some.number (c.args.deep - 1) (c.in-Some-root_in.root.0) c.args.finder.now c.take.new.self c.find_in.new.finder
-    c.in-Some.is (omega arith) (sym c.is_in.ensures.value
+    c.args.deep 0 (option_map document_number c.args.document) (c.in-Some.found.0) (c.args.deep - 1) (c.in-Some-root_in.root.0) c.args.finder.now c.take.new.self c.find_in.new.finder
+    (ap (λ (o : Option DocumentId). option_map document_number o) c.in-Some.is) (omega arith) (sym c.is_in.ensures.value
     ∙ c.if-not-is_in.false) c.in_ok-take.ensures (root_there (seen_tree (g.P.Owned.carried) c.args.tree.now c.args.entries.now) _ _ (sym root)))
     c.find_in.ensures
 
 pub find_from-returns-in-None : goal.find_from-returns-in-None
 find_from-returns-in-None g t c =
     let root = sym (ap (λ (o : Option NodeId). option_map number o) c.in-None.is) ∙ c.root_in.ensures.value in
-    bare_taken (is_in c.args.state) (seen_tree (g.P.Owned.carried) c.args.tree.now c.args.entries.now) (g.F.Finder.with) c.args.deep 0 c.args.document
-    c.in-Some.number (c.args.deep - 1) c.args.finder.now c.take.new.self
-    c.in-Some.is (omega arith) (sym c.is_in.ensures.value
+    bare_taken (is_in c.args.state) (seen_tree (g.P.Owned.carried) c.args.tree.now c.args.entries.now) (g.F.Finder.with) c.args.deep 0 (option_map document_number c.args.document)
+    (c.in-Some.found.0) (c.args.deep - 1) c.args.finder.now c.take.new.self
+    (ap (λ (o : Option DocumentId). option_map document_number o) c.in-Some.is) (omega arith) (sym c.is_in.ensures.value
     ∙ c.if-not-is_in.false) c.in_ok-take.ensures (root_nowhere (seen_tree (g.P.Owned.carried) c.args.tree.now c.args.entries.now) _ (sym root))
 
 pub find_in-returns-then-high-eq0 : goal.find_in-returns-then-high-eq0
@@ -57,7 +59,7 @@ find_in-loop-next-init g t c =
     record {
       among = walk_among forest (c.args.node.0) c.first_child-next.result c.first_child-next.ensures.value;
       walk = walk_begins (is_in c.args.state) (seen_tree (g.P.Owned.carried) c.args.tree.now c.args.entries.now) (g.F.Finder.with) c.args.deep
-          (c.args.high - 1) c.args.high (c.args.node.0) c.framed.result _ _ c.args.finder.now c.find_from.new.finder
+          (c.args.high - 1) c.args.high (c.args.node.0) (option_map document_number c.framed.result) _ _ c.args.finder.now c.find_from.new.finder
           more (framed ∙ sym c.framed.ensures) (children_seen (g.P.Owned.carried) c.args.tree.now c.args.entries.now (c.args.node.0))
           (walk_whole forest (c.args.node.0) c.first_child-next.result c.first_child-next.ensures.value) c.in_ok-find_from.ensures;
     }

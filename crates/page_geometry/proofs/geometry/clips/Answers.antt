@@ -1,22 +1,18 @@
-use Rattle.std.proofs.Common.{ap, sym, ◌∙◌}
-use Rattle.std.specs.Prelude.{is_some, not}
-use Rattle.layout_model.specs.Clips.{is_block, is_visible}
-use Rattle.layout_model.specs.Styles.{Style}
-use Rattle.block_layout.specs.Seen.{seen_kind}
-use Rattle.block_layout.proofs.Nodes.{some_ids, parent_is}
-use Rattle.page_model.specs.Documents.{nodes_of}
-use Rattle.page_tree.specs.Items.{style_in, kind_in}
-use Rattle.page_geometry.proofs.Containers.{clips_by}
+use Rattle.std.proofs.Common.{◌≡◌, nat_lt, length, true, ap, sym, ◌∙◌, arith}
+use Rattle.std.proofs.lemmas.Bool.Decides.{nat_tests}
+use Rattle.layout_model.specs.Clips.{clips}
+use Rattle.page_boxes.proofs.Pages.{count_here}
+use Rattle.page_geometry.proofs.Containers.{missing_clips}
 use Rattle.page_geometry.proofs.geometry.clips.Goals as goal
 
-pub returns-then-is_cut : goal.returns-then-is_cut
-returns-then-is_cut c =
-    let tree = c.args.page.now.tree in
-    let n = c.args.node.0 in
-    clips_by (nodes_of tree n) c.is_some.result
-    (ap is_block (sym c.kind.ensures.value ∙ ap seen_kind c.in-Block.is))
-    (ap (λ (style : Style). not (is_visible style.overflow)) (sym c.style.ensures.value) ∙ sym c.is_cut.ensures ∙ c.if-is_cut.true)
-    (c.is_some.ensures
-    ∙ ap is_some c.parent.ensures.value
-    ∙ some_ids _
-    ∙ ap is_some (sym (ap (λ at. (at n).parent) c.tree.ensures.nodes ∙ parent_is style_in kind_in c.tree.result.now.nodes n)))
+pub is_clipping-requires : goal.is_clipping-requires
+is_clipping-requires c =
+    let count = count_here c.args.page.now c.tree.result.now c.tree.ensures.value in
+    let made : nat_lt (c.args.node.0) (length c.args.page.now.tree.elements) ≡ true = sym c.holds.ensures.value ∙ c.if-holds.true in
+    grind (arith, nat_tests)
+
+pub returns-then-holds : goal.returns-then-holds
+returns-then-holds c = c.is_clipping.ensures.value ∙ ap (λ at. clips (at (c.args.node.0))) (sym c.tree.ensures.nodes)
+
+pub returns-else-holds : goal.returns-else-holds
+returns-else-holds c = c.if-holds.false ∙ sym (missing_clips c.args.page.now.tree (c.args.node.0) (sym c.holds.ensures.value ∙ c.if-holds.false))

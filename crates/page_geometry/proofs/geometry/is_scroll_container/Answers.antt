@@ -12,7 +12,7 @@ is_scroll_container-requires c =
     grind (arith, nat_tests)
 
 pub returns-then-holds : goal.returns-then-holds
-returns-then-holds c = c.is_scroll_container.ensures ∙ ap (λ at. is_scroll_container (at (c.args.node.0))) (sym c.tree.ensures.nodes)
+returns-then-holds c = c.is_scroll_container.ensures.value ∙ ap (λ at. is_scroll_container (at (c.args.node.0))) (sym c.tree.ensures.nodes)
 
 pub returns-else-holds : goal.returns-else-holds
 returns-else-holds c = c.if-holds.false ∙ sym (missing_scrolls c.args.page.now.tree (c.args.node.0) (sym c.holds.ensures.value ∙ c.if-holds.false))

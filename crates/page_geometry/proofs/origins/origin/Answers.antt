@@ -6,7 +6,7 @@ use Rattle.page_geometry.proofs.origins.origin.Goals as goal
 pub returns-in-None-clause-value : goal.returns-in-None-clause-value
 returns-in-None-clause-value c =
     c.origin_up.ensures.value
-    ∙ origin_is c.args.shown.now c.document_count.ensures.page.framed c.document_count.result c.args.document c.document_count.ensures.value
+    ∙ origin_is c.args.shown.now c.document_count.ensures.page.framed c.document_count.result c.args.document.0 c.document_count.ensures.value
 
 pub returns-in-None-clause-range : goal.returns-in-None-clause-range
 returns-in-None-clause-range c =

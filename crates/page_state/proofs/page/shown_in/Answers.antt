@@ -9,4 +9,4 @@ use Rattle.page_state.proofs.page.shown_in.Goals as goal
 pub returns : goal.returns
 returns c =
     c.new.ensures
-    ∙ ap (λ (tree : Tree). let it : ShownIn = record { shown = shown_with tree (seen_screen c.args.screen) c.args.scrolls.now; document = c.args.document } in it) c.page.ensures.tree
+    ∙ ap (λ (tree : Tree). let it : ShownIn = record { shown = shown_with tree (seen_screen c.args.screen) c.args.scrolls.now; document = c.args.document.0 } in it) c.page.ensures.tree

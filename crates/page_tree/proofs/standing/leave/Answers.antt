@@ -9,7 +9,7 @@ returns-in_default c =
 
 pub set_root-requires : goal.set_root-requires
 set_root-requires c =
-    subst (λ count. c.in-Document.document < count)
+    subst (λ count. c.in-Document.document.0 < count)
     (sym (ended_count c.args.tree.now c.args.documents.now c.end_inside.new.documents (c.args.node.0) c.end_inside.ensures))
     (subst (IsBelow (length c.args.documents.now.held)) c.in-Document.is c.in-Some.ensures.held)
 
@@ -20,5 +20,5 @@ returns-in-Element c =
 
 pub returns-in-Document : goal.returns-in-Document
 returns-in-Document c =
-    left_document c.args.tree.now c.args.documents.now c.end_inside.new.documents (c.args.node.0) c.end_inside.ensures c.in-Document.document
+    left_document c.args.tree.now c.args.documents.now c.end_inside.new.documents (c.args.node.0) c.end_inside.ensures c.in-Document.document.0
     (sym c.in-Some.ensures.value ∙ ap (λ it. Some (seen_container it)) c.in-Document.is) c.set_root.new.self c.set_root.ensures

@@ -2,6 +2,9 @@ use Rattle.trace_runs.proofs.Writes.{no_part}
 use Rattle.script_replay.proofs.Asking.{refusal_tells}
 use Rattle.script_replay.proofs.script.refuse_text.Goals as goal
 
+pub meet_limit-requires : goal.meet_limit-requires
+meet_limit-requires g c = rw c.in-ScriptLimit.is at c.requires
+
 pub returns-in-Syntax-clause-tells : goal.returns-in-Syntax-clause-tells
 returns-in-Syntax-clause-tells g c =
     λ job read is. refusal_tells c.refuse_at.result job _ read _ _ _ _ (rw c.in-Syntax.is at is) c.refuse_at.ensures.tells

@@ -13,32 +13,32 @@ use Rattle.scrolling.proofs.pending.add_pending.Goals as goal
 pub returns-then-place-len-clause-added : goal.returns-then-place-len-clause-added
 returns-then-place-len-clause-added c =
     on_ok_weaker c.list_target.result
-    (listed_at c.args.document c.args.lists.now.items c.index_mut.result.now c.list_target.new.list (seen_target c.args.target) (omega (arith, c.if-place-len.true, c.len.ensures)) c.index_mut.ensures.value)
+    (listed_at c.args.document.0 c.args.lists.now.items c.index_mut.result.now c.list_target.new.list (seen_target c.args.target) (omega (arith, c.if-place-len.true, c.len.ensures)) c.index_mut.ensures.value)
     c.list_target.ensures.listed
 
 pub returns-then-place-len-clause-same : goal.returns-then-place-len-clause-same
 returns-then-place-len-clause-same c =
     on_err_weaker c.list_target.result
-    (same_at c.args.document c.args.lists.now.items c.index_mut.result.now c.list_target.new.list (omega (arith, c.if-place-len.true, c.len.ensures)) c.index_mut.ensures.value)
+    (same_at c.args.document.0 c.args.lists.now.items c.index_mut.result.now c.list_target.new.list (omega (arith, c.if-place-len.true, c.len.ensures)) c.index_mut.ensures.value)
     c.list_target.ensures.same
 
 pub returns-then-place-len-clause-there : goal.returns-then-place-len-clause-there
 returns-then-place-len-clause-there c any =
     c.list_target.ensures.there
-    (ap (list_any (is_same_scroll (seen_target c.args.target))) (sym (entry_at c.args.document c.args.lists.now.items c.index_mut.result.now (omega (arith, c.if-place-len.true, c.len.ensures)) c.index_mut.ensures.value)) ∙ any)
+    (ap (list_any (is_same_scroll (seen_target c.args.target))) (sym (entry_at c.args.document.0 c.args.lists.now.items c.index_mut.result.now (omega (arith, c.if-place-len.true, c.len.ensures)) c.index_mut.ensures.value)) ∙ any)
 
 pub returns-in_err-push-clause-there : goal.returns-in_err-push-clause-there
-returns-in_err-push-clause-there c any = absurd (false≢true (past_none c.args.document c.args.lists.now.items (seen_target c.args.target) (omega (arith, c.if-place-len.false, c.len.ensures)) ∙ any))
+returns-in_err-push-clause-there c any = absurd (false≢true (past_none c.args.document.0 c.args.lists.now.items (seen_target c.args.target) (omega (arith, c.if-place-len.false, c.len.ensures)) ∙ any))
 
 pub returns-in_err-reserve-clause-there : goal.returns-in_err-reserve-clause-there
-returns-in_err-reserve-clause-there c any = absurd (false≢true (past_none c.args.document c.args.lists.now.items (seen_target c.args.target) (omega (arith, c.if-place-len.false, c.len.ensures)) ∙ any))
+returns-in_err-reserve-clause-there c any = absurd (false≢true (past_none c.args.document.0 c.args.lists.now.items (seen_target c.args.target) (omega (arith, c.if-place-len.false, c.len.ensures)) ∙ any))
 
 pub returns-clause-added : goal.returns-clause-added
 returns-clause-added c =
     let lists = c.args.lists.now.items in
-    let rest = c.args.document - vec_len c.reserve.new.self in
-    let count : length lists + rest ≡ c.args.document = omega (arith, c.if-place-len.false, c.len.ensures, c.in_ok-reserve.ensures.len) in
-    added_behind c.args.document rest lists c.fill.new.lists.items c.push_reserved.new.self.items c.push.new.self c.args.target count
+    let rest = c.args.document.0 - vec_len c.reserve.new.self in
+    let count : length lists + rest ≡ c.args.document.0 = omega (arith, c.if-place-len.false, c.len.ensures, c.in_ok-reserve.ensures.len) in
+    added_behind c.args.document.0 rest lists c.fill.new.lists.items c.push_reserved.new.self.items c.push.new.self c.args.target count
     (c.fill.ensures.lists ∙ ap (λ these. seen_lists these ++ replicate rest []) c.in_ok-reserve.ensures.items)
     c.push_reserved.ensures.items
     (c.in_ok-push.ensures.items ∙ ap (λ (items : List ScrollTarget). items ++ c.args.target ∷ []) c.new-list.ensures.items)

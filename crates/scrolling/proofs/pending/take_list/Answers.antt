@@ -7,13 +7,13 @@ use Rattle.scrolling.proofs.pending.take_list.Goals as goal
 
 pub returns-then-place-len-clause-taken : goal.returns-then-place-len-clause-taken
 returns-then-place-len-clause-taken c =
-    taken_at c.args.document c.args.lists.now.items c.replace.new.dest (ap (λ (list : Vec ScrollTarget). list.items) c.replace.ensures.after ∙ c.new-empty.ensures.items)
+    taken_at c.args.document.0 c.args.lists.now.items c.replace.new.dest (ap (λ (list : Vec ScrollTarget). list.items) c.replace.ensures.after ∙ c.new-empty.ensures.items)
 
 pub returns-else-place-len-clause-value : goal.returns-else-place-len-clause-value
 returns-else-place-len-clause-value c =
     ap seen_targets c.new-empty.ensures.items
-    ∙ sym (past_entry (λ (list : Vec ScrollTarget). seen_targets list.items) [] c.args.document c.args.lists.now.items (omega (arith, c.if-place-len.false, c.len.ensures)))
+    ∙ sym (past_entry (λ (list : Vec ScrollTarget). seen_targets list.items) [] c.args.document.0 c.args.lists.now.items (omega (arith, c.if-place-len.false, c.len.ensures)))
 
 pub returns-else-place-len-clause-taken : goal.returns-else-place-len-clause-taken
 returns-else-place-len-clause-taken c =
-    past_change (λ (list : Vec ScrollTarget). seen_targets list.items) (λ list. []) c.args.document c.args.lists.now.items (omega (arith, c.if-place-len.false, c.len.ensures))
+    past_change (λ (list : Vec ScrollTarget). seen_targets list.items) (λ list. []) c.args.document.0 c.args.lists.now.items (omega (arith, c.if-place-len.false, c.len.ensures))

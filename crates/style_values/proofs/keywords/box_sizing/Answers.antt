@@ -5,4 +5,4 @@ use Rattle.style_values.proofs.Tables.{mapped}
 use Rattle.style_values.proofs.keywords.box_sizing.Goals as goal
 
 pub returns : goal.returns
-returns c = ap (option_map seen_box_sizing) c.find.ensures ∙ mapped seen_box_sizing _ c.args.word.now
+returns c = ap (option_map seen_box_sizing) c.lookup.ensures ∙ mapped seen_box_sizing _ c.args.word.now

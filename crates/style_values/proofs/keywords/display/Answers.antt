@@ -5,4 +5,4 @@ use Rattle.style_values.proofs.Tables.{mapped}
 use Rattle.style_values.proofs.keywords.display.Goals as goal
 
 pub returns : goal.returns
-returns c = ap (option_map seen_display) c.find.ensures ∙ mapped seen_display _ c.args.word.now
+returns c = ap (option_map seen_display) c.lookup.ensures ∙ mapped seen_display _ c.args.word.now

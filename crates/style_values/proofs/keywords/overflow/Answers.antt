@@ -5,4 +5,4 @@ use Rattle.style_values.proofs.Tables.{mapped}
 use Rattle.style_values.proofs.keywords.overflow.Goals as goal
 
 pub returns : goal.returns
-returns c = ap (option_map seen_overflow) c.find.ensures ∙ mapped seen_overflow _ c.args.word.now
+returns c = ap (option_map seen_overflow) c.lookup.ensures ∙ mapped seen_overflow _ c.args.word.now

@@ -5,4 +5,4 @@ use Rattle.style_values.proofs.Tables.{mapped}
 use Rattle.style_values.proofs.properties.positioned.Goals as goal
 
 pub returns : goal.returns
-returns c = ap (option_map reader_of) c.find.ensures ∙ mapped reader_of _ c.args.name.now
+returns c = ap (option_map reader_of) c.lookup.ensures ∙ mapped reader_of _ c.args.name.now

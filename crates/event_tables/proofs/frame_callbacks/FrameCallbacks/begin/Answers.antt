@@ -8,5 +8,5 @@ use Rattle.event_tables.proofs.frame_callbacks.FrameCallbacks.begin.Goals as goa
 pub returns : goal.returns
 returns c =
     subst (λ (these : List FrameCallback). IfOk c.copies.result (λ batch. batch ≡ these))
-    (read_of seen_frame_callback (λ (callback : FrameCallback). callback.document == c.args.document) c.self.inside.entries c.args.self.now _ c.held.ensures c.self.view_is)
+    (read_of seen_frame_callback (λ (callback : FrameCallback). callback.document == c.args.document.0) c.self.inside.entries c.args.self.now _ c.held.ensures c.self.view_is)
     c.copies.ensures

@@ -1,19 +1,16 @@
-use Rattle.std.proofs.Common.{◌≡◌, ◌∙◌, ap, sym, subst, unwrap_or}
-use Rattle.std.specs.Prelude.{Option}
+use Rattle.std.proofs.Common.{◌≡◌, ◌∙◌, ap, sym, subst}
 use Rattle.clip_chain.specs.Chains.{Leads}
 use Rattle.kept_clips.specs.declared.pair.Pair.{Pair}
 use Rattle.kept_clips.specs.Held.{HeldClips, pair_of, spots_at, computed_now}
 use Rattle.kept_clips.specs.Chains.{IsExact}
-use Rattle.kept_clips.proofs.Pairs.{no_pair, exact_inserted, spots_computed}
+use Rattle.kept_clips.proofs.Pairs.{exact_inserted, spots_computed}
 use Rattle.kept_clips.proofs.clips.Clips.current.Goals as goal
 
 pub returns-clause-exact : goal.returns-clause-exact
 returns-clause-exact g c =
     let scene = g.G.Geometry.scene c.args.geometry.now in
     let it : HeldClips = c.args.self.now in
-    let pair_is : c.unwrap_or-pair.result ≡ pair_of it c.args.number = c.unwrap_or-pair.ensures
-    ∙ ap (λ (o : Option Pair). unwrap_or o no_pair) c.get.ensures
-    ∙ ap (λ (held : HeldClips). pair_of held c.args.number) c.self.view_is in
+    let pair_is : c.held_pair-pair.result ≡ pair_of it c.args.number = c.held_pair-pair.ensures in
     λ other exact.
     subst (λ (held : HeldClips). IsExact scene held other) (sym c.store.ensures)
     (exact_inserted scene it c.args.number (computed_now c.clip_between-clip.result (it.touches) (pair_of it c.args.number)) other

@@ -21,7 +21,7 @@ pub returns-in-View-clause-seen : goal.returns-in-View-clause-seen
 returns-in-View-clause-seen c = λ spot.
     let it : Seen = record { nodes = c.self.inside.nodes.items; views = c.self.inside.views.items } in
     either c.extend-in-View.result (λ (views : List (Option Sighting)). sighting_of (record { nodes = it.nodes; views = views }) spot ≡ sighting_of it spot)
-    it.views c.extend-in-View.new.sightings.items (up_to c.in-View.document it.views) c.extend-in-View.ensures.extended c.extend-in-View.ensures.same
+    it.views c.extend-in-View.new.sightings.items (up_to (c.in-View.document.0) it.views) c.extend-in-View.ensures.extended c.extend-in-View.ensures.same
     (seen_with_room it (View c.in-View.document) spot) refl
     ∙ ap (λ (seen : Seen). sighting_of seen spot) c.self.view_is
 

@@ -29,18 +29,18 @@ returns-else-stands_in_active-clause-shown g c =
 pub returns-then-stands_in_active-clause-inserted : goal.returns-then-stands_in_active-clause-inserted
 returns-then-stands_in_active-clause-inserted g c =
     shown_by_documents (seen_tree (g.P.Owned.carried) c.adopt.new.tree c.args.self.now.held)
-    (adopted (seen_tree (g.P.Owned.carried) c.args.tree.now c.args.self.now.held) c.args.document (c.args.node.0)) _ (c.args.node.0)
+    (adopted (seen_tree (g.P.Owned.carried) c.args.tree.now c.args.self.now.held) c.args.document.0 (c.args.node.0)) _ (c.args.node.0)
     (ap (λ (it : HeldDocuments). it.held) (returns-then-stands_in_active-clause-shown g c)) (c.adopt.ensures.seen c.args.self.now.held)
 
 pub returns-else-stands_in_active-clause-inserted : goal.returns-else-stands_in_active-clause-inserted
 returns-else-stands_in_active-clause-inserted g c =
     shown_by_documents (seen_tree (g.P.Owned.carried) c.adopt.new.tree c.args.self.now.held)
-    (adopted (seen_tree (g.P.Owned.carried) c.args.tree.now c.args.self.now.held) c.args.document (c.args.node.0)) _ (c.args.node.0)
+    (adopted (seen_tree (g.P.Owned.carried) c.args.tree.now c.args.self.now.held) c.args.document.0 (c.args.node.0)) _ (c.args.node.0)
     (ap (λ (it : HeldDocuments). it.held) (returns-else-stands_in_active-clause-shown g c)) (c.adopt.ensures.seen c.args.self.now.held)
 
 pub returns-then-stands_in_active-clause-framed : goal.returns-then-stands_in_active-clause-framed
 returns-then-stands_in_active-clause-framed g c before container sibling framed put own =
-    entered_together before (seen_tree (g.P.Owned.carried) c.args.tree.now c.args.self.now.held) _ container (c.args.node.0) c.args.document sibling framed
+    entered_together before (seen_tree (g.P.Owned.carried) c.args.tree.now c.args.self.now.held) _ container (c.args.node.0) c.args.document.0 sibling framed
     put own (node_there (g.P.Owned.carried) c.args.tree.now.nodes (c.args.node.0) c.requires)
     (subst MakeTrees (c.adopt.ensures.seen c.args.self.now.held) (trees_seen (g.P.Owned.carried) c.adopt.new.tree c.args.self.now.held
     c.stands_in_active.ensures.forest))
@@ -48,7 +48,7 @@ returns-then-stands_in_active-clause-framed g c before container sibling framed 
 
 pub returns-else-stands_in_active-clause-framed : goal.returns-else-stands_in_active-clause-framed
 returns-else-stands_in_active-clause-framed g c before container sibling framed put own =
-    entered_together before (seen_tree (g.P.Owned.carried) c.args.tree.now c.args.self.now.held) _ container (c.args.node.0) c.args.document sibling framed
+    entered_together before (seen_tree (g.P.Owned.carried) c.args.tree.now c.args.self.now.held) _ container (c.args.node.0) c.args.document.0 sibling framed
     put own (node_there (g.P.Owned.carried) c.args.tree.now.nodes (c.args.node.0) c.requires)
     (subst MakeTrees (c.adopt.ensures.seen c.args.self.now.held) (trees_seen (g.P.Owned.carried) c.adopt.new.tree c.args.self.now.held
     c.stands_in_active.ensures.forest))

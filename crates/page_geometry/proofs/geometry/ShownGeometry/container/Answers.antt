@@ -22,5 +22,5 @@ returns-in-Some-clause-end c =
     let frame = element_spot (c.in-Some.frame.0) in
     subst (λ spot. rank_of it.tree it.screen frame < rank_of it.tree it.screen spot) (sym c.in-View.is)
     (ends it.tree it.screen it.scrolls told.framed told.few told.deep (View c.in-View.document) (Some frame)
-    (view_container it.tree it.screen it.scrolls c.in-View.document (Some frame)
+    (view_container it.tree it.screen it.scrolls (c.in-View.document.0) (Some frame)
     (ap (option_map element_spot) (sym (ap (option_map number) c.in-Some.is) ∙ c.frame_of.ensures))))

@@ -6,4 +6,4 @@ use Rattle.page_geometry.proofs.shown.Shown.in_document.Goals as goal
 pub with_view-requires-clause-offsets : goal.with_view-requires-clause-offsets
 with_view-requires-clause-offsets c =
     let at = c.self.inside in
-    lent (shown_with at.page.now.tree (seen_screen at.screen) at.scrolls.now) c.args.document c.as_ref.result at.offsets c.as_ref.ensures.value c.self.invariant.3
+    lent (shown_with at.page.now.tree (seen_screen at.screen) at.scrolls.now) c.args.document.0 c.as_ref.result at.offsets c.as_ref.ensures.value c.self.invariant.3

@@ -9,5 +9,5 @@ pub invariant_of-self : goal.invariant_of-self
 invariant_of-self c =
     let at = c.self.inside in
     let shown : Shown = shown_with at.page.now.tree (seen_screen at.screen) at.scrolls.now in
-    let here : IsFound shown c.args.document c.args.found = subst (λ (s : Shown). IsFound s c.args.document c.args.found) (sym c.self.view_is) c.requires.found in
-    (c.self.invariant.0, c.self.invariant.1, subst (AreFound shown) (sym c.put.ensures) (one_found shown at.found c.args.document c.args.found here c.self.invariant.2), c.self.invariant.3)
+    let here : IsFound shown c.args.document.0 c.args.found = subst (λ (s : Shown). IsFound s c.args.document.0 c.args.found) (sym c.self.view_is) c.requires.found in
+    (c.self.invariant.0, c.self.invariant.1, subst (AreFound shown) (sym c.put.ensures) (one_found shown at.found c.args.document.0 c.args.found here c.self.invariant.2), c.self.invariant.3)

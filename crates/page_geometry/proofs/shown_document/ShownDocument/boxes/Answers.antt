@@ -8,4 +8,4 @@ use Rattle.page_geometry.proofs.shown_document.ShownDocument.boxes.Goals as goal
 pub returns-clause-sized : goal.returns-clause-sized
 returns-clause-sized c =
     let at = c.self.inside in
-    subst (λ (s : ShownIn). IsSized (view_of s.shown.tree s.shown.screen s.document)) c.self.view_is (sized_view at.page.now.tree at.screen c.self.invariant.0 at.document)
+    subst (λ (s : ShownIn). IsSized (view_of s.shown.tree s.shown.screen s.document)) c.self.view_is (sized_view at.page.now.tree at.screen c.self.invariant.0 at.document.0)

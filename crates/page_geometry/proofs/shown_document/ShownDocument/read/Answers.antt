@@ -20,7 +20,7 @@ returns-in-Element-clause-value c names =
 pub returns-in-Document-clause-value : goal.returns-in-Document-clause-value
 returns-in-Document-clause-value c names =
     let it = c.args.self.now.shown in
-    let document = c.in-Document.document in
+    let document = c.in-Document.document.0 in
     let own : document ≡ c.args.self.now.document = sym (ap (λ k. document_of_container it.tree (seen_container k)) c.in-Document.is) ∙ c.requires in
     ap (λ k. reading_of names it.tree it.screen it.scrolls (seen_container k)) c.in-Document.is
     ∙ document_reading names it.tree it.screen it.scrolls document c.rect_at.result c.offset_of-in-Document.result

@@ -1,4 +1,4 @@
-use Rattle.page_tree.specs.Steps.{seen_axis}
+use Rattle.style_values.specs.Seen.{seen_axis}
 use Rattle.page_layout.proofs.Marking.{kept_written}
 use Rattle.page_layout.proofs.Parents.{grow_parent}
 use Rattle.page_layout.proofs.laid.LaidTree.grow.Goals as goal

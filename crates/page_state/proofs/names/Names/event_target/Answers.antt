@@ -29,7 +29,7 @@ returns-in-Err-clause-answer c =
 pub returns-in-Ok-document-clause-answer : goal.returns-in-Ok-document-clause-answer
 returns-in-Ok-document-clause-answer c =
     subst (λ (aim : Aim). Finds seen_target (Ok (Window c.in-Ok-document.document)) (event_target_meant c.args.self.now.list (present_of c.args.subject) (aim_of aim))) (sym c.in-Window.is)
-    (then_did (λ (document : ℕ). Did (WindowTarget document)) (document_named c.args.self.now.list c.in-Window.document) c.in-Ok-document.document c.in-Ok-document.ensures.answer)
+    (then_did (λ (document : ℕ). Did (WindowTarget document)) (document_named c.args.self.now.list c.in-Window.document) c.in-Ok-document.document.0 c.in-Ok-document.ensures.answer)
 
 pub returns-in-Err-document-clause-answer : goal.returns-in-Err-document-clause-answer
 returns-in-Err-document-clause-answer c =

@@ -6,5 +6,5 @@ use Rattle.page_state.proofs.page.Page.document.Goals as goal
 
 pub returns-clause-there : goal.returns-clause-there
 returns-clause-there c =
-    subst (λ (v : PageView). IfOk c.document.result (λ document. document < length v.world.tree.documents)) c.self.view_is
+    subst (λ (v : PageView). IfOk c.document.result (λ document. document.0 < length v.world.tree.documents)) c.self.view_is
     (c.document.ensures.held (counts_in c.self.inside) c.self.invariant.known.there)

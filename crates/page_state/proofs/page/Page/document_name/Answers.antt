@@ -10,6 +10,6 @@ use Rattle.page_state.proofs.page.Page.document_name.Goals as goal
 pub unwrap-requires : goal.unwrap-requires
 unwrap-requires c =
     subst (λ (it : Option (List ℕ)). IsSome it) (sym c.name_of.ensures)
-    (some_named (find (λ (it : Name). is_same_thing it.thing (DocumentThing c.args.document)) c.self.inside.names.list)
-    (c.self.invariant.known.named (DocumentThing c.args.document)
-    (subst (λ (v : PageView). c.args.document < length v.world.tree.documents) (sym c.self.view_is) c.requires)))
+    (some_named (find (λ (it : Name). is_same_thing it.thing (DocumentThing c.args.document.0)) c.self.inside.names.list)
+    (c.self.invariant.known.named (DocumentThing c.args.document.0)
+    (subst (λ (v : PageView). c.args.document.0 < length v.world.tree.documents) (sym c.self.view_is) c.requires)))

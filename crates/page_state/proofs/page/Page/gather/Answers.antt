@@ -17,9 +17,9 @@ pub returns-clause-gathered : goal.returns-clause-gathered
 returns-clause-gathered g c =
     let p = record (c.self.inside) { laid = c.refresh.new.self } in
     ap (λ (it : HeldObservers). record (view_of p) { world = record (world_of p) { resize_observers = it.part } }) (c.gather.ensures.gathered
-    ∙ ap (λ (s : Shown). record (c.self.inside.observers) { part = gathering (sight_in s.tree s.screen) c.args.document c.args.depth (c.self.inside.observers.part) }) (c.with_views-sizes.ensures ∙ c.shown_now.ensures))
-    ∙ ap (λ (world : World). record (view_of p) { world = world }) (gathers c.args.document c.args.depth (world_of p))
-    ∙ ap (λ (v : PageView). record v { world = gather c.args.document c.args.depth (v.world) })
+    ∙ ap (λ (s : Shown). record (c.self.inside.observers) { part = gathering (sight_in s.tree s.screen) c.args.document.0 c.args.depth (c.self.inside.observers.part) }) (c.with_views-sizes.ensures ∙ c.shown_now.ensures))
+    ∙ ap (λ (world : World). record (view_of p) { world = world }) (gathers c.args.document.0 c.args.depth (world_of p))
+    ∙ ap (λ (v : PageView). record v { world = gather c.args.document.0 c.args.depth (v.world) })
     (view_refreshed c.self.inside c.refresh.new.self c.refresh.ensures.same c.args.self.now c.self.view_is)
 
 pub returns-clause-boxes : goal.returns-clause-boxes
@@ -28,4 +28,4 @@ returns-clause-boxes g c =
 
 pub returns-clause-ready : goal.returns-clause-ready
 returns-clause-ready g c = λ handlers.
-    ready_by handlers c.args.self.now.world (returns-clause-gathered g c) (gather-next c.args.document c.args.depth c.args.self.now.world)
+    ready_by handlers c.args.self.now.world (returns-clause-gathered g c) (gather-next c.args.document.0 c.args.depth c.args.self.now.world)

@@ -42,7 +42,7 @@ returns-in_err-insert-clause-boxes c =
 pub returns-clause-boxes : goal.returns-clause-boxes
 returns-clause-boxes c =
     let kind = seen_kind c.args.kind in
-    let document = c.in_ok-document.document in
+    let document = c.in_ok-document.document.0 in
     due_made c.self.inside c.args.self.now c.self.view_is c.making_leaves_boxes.ensures.leaves c.make.new.self (λ n. c.in_ok-_node.ensures.marks n ∙ c.in_ok-node.ensures.marks n)
     (with_element kind document None) (c.making_leaves_boxes.ensures.elements c.args.kind document)
     (ap (λ (it : PageElements). it.tree) c.in_ok-_node.ensures.made ∙ ap (λ (it : PageElements). with_element kind document None (it.tree)) c.in_ok-node.ensures.same)

@@ -38,10 +38,10 @@ invariant_of-self-2 c =
     (ap (λ (it : PageElements). it.version) c.in_ok-_made.ensures.made ∙ ap (λ (it : PageElements). it.version) before)
     (ap (λ (it : PageElements). it.names) c.in_ok-_made.ensures.made ∙ ap (λ (it : PageElements). it.names ++ c.args.name ∷ []) before)
     (c.in_ok-_made.ensures.count ∙ ap (λ (it : PageElements). length it.tree.elements + 1) before)
-    c.in_ok-node.node.0 c.document_count-framed.result c.args.inside c.in_ok-node.ensures.node
-    (c.document_count-framed.ensures.value ∙ ap (λ (it : Tree). length it.documents) c.page.ensures.tree ∙ ap (λ (it : PageElements). length it.tree.documents) before)
+    c.in_ok-node.node.0 c.document_count.result c.args.inside c.in_ok-node.ensures.node
+    (c.document_count.ensures.value ∙ ap (λ (it : Tree). length it.documents) c.page.ensures.tree ∙ ap (λ (it : PageElements). length it.tree.documents) before)
     (c.in_ok-insert-2.ensures.given
-    ∙ ap (λ (list : List Name). list ++ record { text = c.args.inside; thing = DocumentThing c.document_count-framed.result } ∷ [])
+    ∙ ap (λ (list : List Name). list ++ record { text = c.args.inside; thing = DocumentThing c.document_count.result } ∷ [])
     (c.in_ok-insert.ensures.given ∙ ap (λ (list : List Name). list ++ record { text = c.args.name; thing = ElementThing c.in_ok-node.node.0 } ∷ []) c.in_ok-reserve.ensures.same))
     (c.in_ok-_made.ensures.documents ∙ ap (λ (it : PageElements). length it.tree.documents + 1) before)
     (c.add-2.ensures.roomier.room (element_spot c.in_ok-node.node.0) c.in_ok-add.ensures.room)
@@ -69,7 +69,7 @@ returns-in_err-reserve-clause-boxes c =
 
 pub returns-clause-boxes : goal.returns-clause-boxes
 returns-clause-boxes c =
-    let document = c.in_ok-document.document in
+    let document = c.in_ok-document.document.0 in
     due_made c.self.inside c.args.self.now c.self.view_is c.making_leaves_boxes.ensures.leaves c.make_frame.new.self (λ n. c.in_ok-_made.ensures.marks n ∙ c.in_ok-node.ensures.marks n)
     (with_frame document) (c.making_leaves_boxes.ensures.frames document)
     (ap (λ (it : PageElements). it.tree) c.in_ok-_made.ensures.made ∙ ap (λ (it : PageElements). with_frame document (it.tree)) c.in_ok-node.ensures.same)

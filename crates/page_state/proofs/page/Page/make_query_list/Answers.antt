@@ -21,7 +21,7 @@ invariant_of-self-2 g c =
     let made : queries ≡ p.queries.items ++ last ∷ [] = c.in-Ok.ensures.items in
     let given : names.list ≡ p.names.list ++ record { text = c.args.name; thing = QueryListThing c.len-number.result } ∷ [] =
     c.in_ok-insert.ensures.given ∙ ap (λ (list : List Name). list ++ record { text = c.args.name; thing = QueryListThing c.len-number.result } ∷ []) c.in_ok-reserve.ensures.same in
-    let there : c.in_ok-document.document < length p.laid.elements.tree.documents = subst (λ (v : PageView). c.in_ok-document.document < length v.world.tree.documents) (sym c.self.view_is) c.in_ok-document.ensures.there in
+    let there : c.in_ok-document.document.0 < length p.laid.elements.tree.documents = subst (λ (v : PageView). c.in_ok-document.document.0 < length v.world.tree.documents) (sym c.self.view_is) c.in_ok-document.ensures.there in
     let known = query_known p names queries c.args.name last c.len-number.result c.self.invariant given number made in
     let elements = query_elements p names queries c.args.name last c.len-number.result c.self.invariant given number made in
     let asked = query_asked p names queries c.args.name last c.len-number.result c.self.invariant given number made there (omega (arith, number, most, c.if-number-most.false)) in
@@ -33,7 +33,7 @@ returns-clause-done g c present =
     let view_is = view_refreshed c.self.inside c.viewport_now-viewport.new.laid c.viewport_now-viewport.ensures.same c.args.self.now c.self.view_is in
     let number : c.len-number.result ≡ length p.queries.items = c.len-number.ensures ∙ c.self.inside.queries.ok.0 in
     let most : c.most.result ≡ 4096 = c.most.ensures in
-    keeps_since (asks_page p c.args.name c.args.query.now c.in_ok-document.document c.insert.new.self.list c.push.new.self.items c.in_ok-query.query c.matches-matched.result (seen_size c.viewport_now-viewport.result)
+    keeps_since (asks_page p c.args.name c.args.query.now c.in_ok-document.document.0 c.insert.new.self.list c.push.new.self.items c.in_ok-query.query c.matches-matched.result (seen_size c.viewport_now-viewport.result)
     (c.in_ok-insert.ensures.given
     ∙ ap (λ (list : List Name). list ++ record { text = c.args.name; thing = QueryListThing c.len-number.result } ∷ []) c.in_ok-reserve.ensures.same
     ∙ ap (λ (n : ℕ). p.names.list ++ record { text = c.args.name; thing = QueryListThing n } ∷ []) number)

@@ -17,7 +17,7 @@ use Rattle.page_state.proofs.page.Page.make_watcher.Goals as goal
 
 pub invariant_of-self-2 : goal.invariant_of-self-2
 invariant_of-self-2 c =
-    seeing_page c.self.inside c.insert.new.self c.make.new.self c.push_reserved.new.self c.args.making.now.name c.in_ok-document.document c.in-Ok.watcher.0 c.in_ok-handler.handler (seen_root c.in_ok-root.root)
+    seeing_page c.self.inside c.insert.new.self c.make.new.self c.push_reserved.new.self c.args.making.now.name c.in_ok-document.document.0 c.in-Ok.watcher.0 c.in_ok-handler.handler (seen_root c.in_ok-root.root)
     c.in_ok-margins.margins c.in_ok-scroll_margins.scroll_margins c.in_ok-thresholds.thresholds c.self.invariant
     (c.in_ok-insert.ensures.given ∙ ap (λ (list : List Name). list ++ record { text = c.args.making.now.name; thing = IntersectionObserverThing c.in-Ok.watcher.0 } ∷ []) c.in_ok-reserve.ensures.same)
     c.in-Ok.ensures.watcher c.in-Ok.ensures.made
@@ -25,7 +25,7 @@ invariant_of-self-2 c =
 
 pub returns-clause-done : goal.returns-clause-done
 returns-clause-done c =
-    made_page c.self.inside c.args.self.now c.self.view_is c.self.invariant.margins (making_of c.args.making.now) c.in_ok-document.document c.in_ok-handler.handler (seen_root c.in_ok-root.root)
+    made_page c.self.inside c.args.self.now c.self.view_is c.self.invariant.margins (making_of c.args.making.now) c.in_ok-document.document.0 c.in_ok-handler.handler (seen_root c.in_ok-root.root)
     c.in_ok-margins.margins c.in_ok-scroll_margins.scroll_margins c.in_ok-thresholds.thresholds
     (handler_names (handlers_in c.args.script.now.items)) (present_of c.args.subject)
     c.in_ok-check_free.ensures.answer c.in_ok-document.ensures.answer c.in_ok-handler.ensures c.in_ok-root.ensures
@@ -38,7 +38,7 @@ returns-clause-done c =
 
 pub returns-in_err-reserve-2-clause-done : goal.returns-in_err-reserve-2-clause-done
 returns-in_err-reserve-2-clause-done c =
-    unmade_page c.self.inside c.args.self.now c.self.view_is c.self.invariant.margins (making_of c.args.making.now) c.in_ok-document.document c.in_ok-handler.handler (seen_root c.in_ok-root.root)
+    unmade_page c.self.inside c.args.self.now c.self.view_is c.self.invariant.margins (making_of c.args.making.now) c.in_ok-document.document.0 c.in_ok-handler.handler (seen_root c.in_ok-root.root)
     c.in_ok-margins.margins c.in_ok-scroll_margins.scroll_margins c.in_ok-thresholds.thresholds
     (handler_names (handlers_in c.args.script.now.items)) (present_of c.args.subject)
     c.in_ok-check_free.ensures.answer c.in_ok-document.ensures.answer c.in_ok-handler.ensures c.in_ok-root.ensures

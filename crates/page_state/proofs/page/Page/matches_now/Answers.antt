@@ -22,7 +22,7 @@ returns-clause-value g c =
     (subst (λ (v : PageView). c.args.query < length v.world.queries) (sym c.self.view_is) c.requires) in
     let at : query_list_at c.args.self.now.world.queries c.args.query ≡ seen_query_list list =
     subst (λ (v : PageView). query_list_at v.world.queries c.args.query ≡ seen_query_list list) c.self.view_is (list_here c.self.inside c.args.query list below c.index-list.ensures) in
-    matches_here c.args.self.now.world c.args.query (seen_query_list list) (seen_size c.viewport_now-viewport.result) at c.matches.result c.matches.ensures (c.viewport_now-viewport.ensures.value ∙ ap (λ (v : PageView). viewport_of v.world.tree v.world.viewports.screen list.document)
+    matches_here c.args.self.now.world c.args.query (seen_query_list list) (seen_size c.viewport_now-viewport.result) at c.matches.result c.matches.ensures (c.viewport_now-viewport.ensures.value ∙ ap (λ (v : PageView). viewport_of v.world.tree v.world.viewports.screen list.document.0)
     (view_refreshed c.self.inside c.viewport_now-viewport.new.laid c.viewport_now-viewport.ensures.same c.args.self.now c.self.view_is))
 
 pub returns-clause-boxes : goal.returns-clause-boxes
@@ -36,4 +36,4 @@ returns-clause-boxes g c =
     subst (λ (it : QueryList). ComputesIn c.args.self.now.world (rests_on (c.args.self.now.world.tree) (InDocument it.document)) c.args.self.now.kept c.viewport_now-viewport.new.laid.kept c.args.steps.now c.viewport_now-viewport.new.steps)
     (sym at)
     (computed_in c.self.inside c.viewport_now-viewport.new.laid c.viewport_now-viewport.ensures.same c.args.self.now c.self.view_is c.viewport_now-viewport.ensures.fills
-    _ _ c.viewport_now-viewport.ensures.ticks (λ tree. rests_on tree (InDocument list.document)) c.viewport_now-viewport.ensures.others)
+    _ _ c.viewport_now-viewport.ensures.ticks (λ tree. rests_on tree (InDocument list.document.0)) c.viewport_now-viewport.ensures.others)

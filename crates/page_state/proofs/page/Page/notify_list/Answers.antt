@@ -11,8 +11,8 @@ returns-clause-cleared c = search rules
 
 pub returns-clause-ready : goal.returns-clause-ready
 returns-clause-ready c = λ handlers.
-    ready_by handlers (with_first (Notify c.args.document) c.args.self.now.world) (returns-clause-cleared c) (notify_begun c.args.self.now.world c.args.document)
+    ready_by handlers (with_first (Notify c.args.document.0) c.args.self.now.world) (returns-clause-cleared c) (notify_begun c.args.self.now.world c.args.document.0)
 
 pub returns-in_err-list-clause-ready : goal.returns-in_err-list-clause-ready
 returns-in_err-list-clause-ready c = λ handlers ready.
-    ready-next handlers (with_first (Notify c.args.document) c.args.self.now.world) ready c.args.self.now.world (notify_refused c.args.self.now.world c.args.document)
+    ready-next handlers (with_first (Notify c.args.document.0) c.args.self.now.world) ready c.args.self.now.world (notify_refused c.args.self.now.world c.args.document.0)

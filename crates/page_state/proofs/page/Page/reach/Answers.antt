@@ -33,7 +33,7 @@ returns-clause-boxes g c =
     subst (λ (document : ℕ). ComputesIn c.args.self.now.world (Some document) c.args.self.now.kept c.refresh_in.new.self.kept c.args.steps.now c.refresh_in.new.steps)
     own
     (computed_in c.self.inside c.refresh_in.new.self c.refresh_in.ensures.same c.args.self.now c.self.view_is c.refresh_in.ensures.fills _ _ c.refresh_in.ensures.ticks
-    (λ tree. Some c.document_scrolled-document.result) c.refresh_in.ensures.left)
+    (λ tree. Some c.document_scrolled-document.result.0) c.refresh_in.ensures.left)
 
 pub offset_of-requires : goal.offset_of-requires
 offset_of-requires g c =

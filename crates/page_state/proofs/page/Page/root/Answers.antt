@@ -20,7 +20,7 @@ pub returns-in-Ok-Document : goal.returns-in-Ok-Document
 returns-in-Ok-Document c =
     (λ i. root_meant c.args.self.now.world.names (present_of c.args.subject) (option_map operand_of (c.in-Some.is i)))
     ∙ then_did (λ (container : Container). Did (root_at container)) (container_meant c.args.self.now.world.names (present_of c.args.subject) (operand_of c.in-Some.operand))
-    (InDocument c.in-Ok-Document.document) (c.in-Ok-Document.ensures.answer ∙ ap (λ (it : Place). Did (seen_container it)) c.in-Ok-Document.field-0-is)
+    (InDocument c.in-Ok-Document.document.0) (c.in-Ok-Document.ensures.answer ∙ ap (λ (it : Place). Did (seen_container it)) c.in-Ok-Document.field-0-is)
 
 pub returns-in-Err : goal.returns-in-Err
 returns-in-Err c =

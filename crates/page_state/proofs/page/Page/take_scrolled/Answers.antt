@@ -8,4 +8,4 @@ pub returns-clause-taken : goal.returns-clause-taken
 returns-clause-taken c = search rules
 
 pub returns-clause-ready : goal.returns-clause-ready
-returns-clause-ready c = λ handlers. ready_by handlers c.args.self.now.world (returns-clause-taken c) (pending-next c.args.self.now.world c.args.document)
+returns-clause-ready c = λ handlers. ready_by handlers c.args.self.now.world (returns-clause-taken c) (pending-next c.args.self.now.world c.args.document.0)

@@ -1,7 +1,7 @@
 use Rattle.std.proofs.Common.{option_map, ap, ◌∙◌, unsigned_abs}
 use Rattle.px_units.specs.declared.Px.{Px}
 use Rattle.page_model.specs.Edits.{set_dimension}
-use Rattle.page_tree.specs.Steps.{seen_axis}
+use Rattle.style_values.specs.Seen.{seen_axis}
 use Rattle.page_tree.proofs.Growing.{grow_refused, grow_done}
 use Rattle.page_tree.proofs.page.PageTree.grow.Goals as goal
 

@@ -10,7 +10,7 @@ invariant_of-self-2 c =
     IsPage-made c.self.inside.tree c.self.inside.documents c.self.invariant c.add.new.self
     c.args.self.now c.reserve.new.self c.self.view_is c.in_default.ensures.same c.in_default.ensures.roomy c.new.result c.in-Ok.ensures.added
     c.self.inside.documents refl
-    (element_made c.self.inside.tree c.add.new.self c.self.inside.documents c.self.invariant.framed c.args.name (seen_kind c.args.kind) c.args.document
+    (element_made c.self.inside.tree c.add.new.self c.self.inside.documents c.self.invariant.framed c.args.name (seen_kind c.args.kind) c.args.document.0
     c.new.result c.new.ensures c.in-Ok.ensures.added)
 
 pub returns-clause-changes : goal.returns-clause-changes

@@ -32,8 +32,8 @@ invariant_of-self-2 c =
     c.args.self.now c.args.self.now c.self.view_is refl (element_roomy c.args.self.now c.is_full.result c.is_full.ensures c.if-is_full.false)
     c.new-element.result c.in-Ok.ensures.added
     c.make-framed.new.self (ap (λ (it : HeldDocuments). it.most) c.make-framed.ensures.made)
-    (frame_made c.self.inside.tree c.add.new.self c.self.inside.documents c.self.invariant.framed c.args.name c.args.document c.count-framed.result
-    c.new-element.result c.count-framed.ensures.value c.new-element.ensures c.in-Ok.ensures.added
+    (frame_made c.self.inside.tree c.add.new.self c.self.inside.documents c.self.invariant.framed c.args.name c.args.document.0 c.count.result
+    c.new-element.result c.count.ensures.value c.new-element.ensures c.in-Ok.ensures.added
     (c.in-Ok.node.0) c.in-Ok.ensures.node c.make-framed.new.self c.make-framed.ensures.made
     (subst (λ (page : PageElements). length page.tree.documents < 65536) (sym c.self.view_is)
     (few_documents c.args.self.now c.is_full_of_documents.result c.is_full_of_documents.ensures c.if-is_full_of_documents.false)))

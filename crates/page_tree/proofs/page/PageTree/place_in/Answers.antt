@@ -31,7 +31,7 @@ invariant_of-self c =
     (kept_then c.self.inside.tree c.put.new.tree c.entered.new.tree
     (kept_put (c.args.parent.0) (c.args.node.0) (mark_for (c.args.node.0) (option_map number c.args.sibling) c.self.inside.tree.nodes) c.self.inside.tree
     c.put.new.tree c.put.ensures.done)
-    (kept_adopted c.document-document.result (c.args.node.0) c.put.new.tree c.entered.new.tree c.entered.ensures.adopted))
+    (kept_adopted c.document-document.result.0 (c.args.node.0) c.put.new.tree c.entered.new.tree c.entered.ensures.adopted))
     c.self.invariant
     (ap (λ (it : HeldDocuments). it.most) c.entered.ensures.shown ∙ ap (λ (it : HeldDocuments). it.most) c.leave.ensures)
     (placing_framed (seen_tree carried_in c.self.inside.tree c.self.inside.documents.held) (seen_tree carried_in c.entered.new.tree c.entered.new.self.held)
@@ -40,7 +40,7 @@ invariant_of-self c =
     (subst (λ (page : PageElements). c.args.node.0 < length page.tree.elements) (sym c.self.view_is) c.requires.node)
     (put_done c.self.inside.tree c.self.inside.documents c.holds-held.ensures.forest (c.args.node.0) c.leave.new.documents c.leave.ensures
     c.self.invariant.most_depth (c.args.parent.0) (option_map number c.args.sibling) c.in_default.ensures c.put.new.tree c.put.ensures.done
-    c.document-document.result
+    c.document-document.result.0
     (owner_seen carried_in c.self.inside.tree c.self.inside.documents.held (c.args.parent.0) c.payload.result.now c.payload.ensures.value
     ∙ sym c.document-document.ensures)
     _ c.entered.ensures.inserted))
@@ -50,7 +50,7 @@ returns-clause-done c =
     ap (λ (page : PageElements). placing (InElement (c.args.parent.0)) (c.args.node.0) (option_map number c.args.sibling) (page.tree)) (sym c.self.view_is)
     ∙ put_done c.self.inside.tree c.self.inside.documents c.holds-held.ensures.forest (c.args.node.0) c.leave.new.documents c.leave.ensures
     c.self.invariant.most_depth (c.args.parent.0) (option_map number c.args.sibling) c.in_default.ensures c.put.new.tree c.put.ensures.done
-    c.document-document.result
+    c.document-document.result.0
     (owner_seen carried_in c.self.inside.tree c.self.inside.documents.held (c.args.parent.0) c.payload.result.now c.payload.ensures.value
     ∙ sym c.document-document.ensures)
     _ c.entered.ensures.inserted
@@ -61,7 +61,7 @@ returns-clause-rest c =
     (kept_then c.self.inside.tree c.put.new.tree c.entered.new.tree
     (kept_put (c.args.parent.0) (c.args.node.0) (mark_for (c.args.node.0) (option_map number c.args.sibling) c.self.inside.tree.nodes) c.self.inside.tree
     c.put.new.tree c.put.ensures.done)
-    (kept_adopted c.document-document.result (c.args.node.0) c.put.new.tree c.entered.new.tree c.entered.ensures.adopted))
+    (kept_adopted c.document-document.result.0 (c.args.node.0) c.put.new.tree c.entered.new.tree c.entered.ensures.adopted))
 
 pub returns-clause-count : goal.returns-clause-count
 returns-clause-count c =
@@ -69,7 +69,7 @@ returns-clause-count c =
     (kept_then c.self.inside.tree c.put.new.tree c.entered.new.tree
     (kept_put (c.args.parent.0) (c.args.node.0) (mark_for (c.args.node.0) (option_map number c.args.sibling) c.self.inside.tree.nodes) c.self.inside.tree
     c.put.new.tree c.put.ensures.done)
-    (kept_adopted c.document-document.result (c.args.node.0) c.put.new.tree c.entered.new.tree c.entered.ensures.adopted))
+    (kept_adopted c.document-document.result.0 (c.args.node.0) c.put.new.tree c.entered.new.tree c.entered.ensures.adopted))
 
 pub returns-clause-documents : goal.returns-clause-documents
 returns-clause-documents c =

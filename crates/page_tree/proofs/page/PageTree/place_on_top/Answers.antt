@@ -18,47 +18,47 @@ use Rattle.page_tree.proofs.page.PageTree.place_on_top.Goals as goal
 
 pub returns-then-is_no_root-clause-refused : goal.returns-then-is_no_root-clause-refused
 returns-then-is_no_root-clause-refused c =
-    ap (λ (page : PageElements). placing (InDocument c.args.document) (c.args.node.0) (option_map number c.args.sibling) (page.tree)) (sym c.self.view_is)
+    ap (λ (page : PageElements). placing (InDocument c.args.document.0) (c.args.node.0) (option_map number c.args.sibling) (page.tree)) (sym c.self.view_is)
     ∙ top_missing c.self.inside.tree c.self.inside.documents.held c.self.invariant.most_depth c.holds-held.ensures.forest
-    c.args.document (c.args.node.0) (option_map number c.args.sibling) c.is_no_root.result c.is_no_root.ensures c.if-is_no_root.true
+    c.args.document.0 (c.args.node.0) (option_map number c.args.sibling) c.is_no_root.result c.is_no_root.ensures c.if-is_no_root.true
 
 pub returns-then-is_some-clause-refused : goal.returns-then-is_some-clause-refused
 returns-then-is_some-clause-refused c =
-    ap (λ (page : PageElements). placing (InDocument c.args.document) (c.args.node.0) (option_map number c.args.sibling) (page.tree)) (sym c.self.view_is)
+    ap (λ (page : PageElements). placing (InDocument c.args.document.0) (c.args.node.0) (option_map number c.args.sibling) (page.tree)) (sym c.self.view_is)
     ∙ top_full c.self.inside.tree c.self.inside.documents.held c.self.invariant.most_depth c.holds-held.ensures.forest
-    c.args.document (c.args.node.0) (option_map number c.args.sibling) c.is_no_root.result c.is_no_root.ensures c.if-is_no_root.false
+    c.args.document.0 (c.args.node.0) (option_map number c.args.sibling) c.is_no_root.result c.is_no_root.ensures c.if-is_no_root.false
     (option_map number c.root_of.result) c.root_of.ensures (some_still number c.root_of.result ∙ sym c.is_some.ensures ∙ c.if-is_some.true)
 
 pub set_root-requires : goal.set_root-requires
 set_root-requires c =
-    subst (λ count. c.args.document < count)
+    subst (λ count. c.args.document.0 < count)
     (sym (ap (λ (it : HeldDocuments). length it.held) c.leave.ensures ∙ removed_count _ (c.args.node.0)))
-    (document_within c.args.self.now c.self.inside.tree c.self.inside.documents c.self.view_is c.args.document c.requires.document)
+    (document_within c.args.self.now c.self.inside.tree c.self.inside.documents c.self.view_is c.args.document.0 c.requires.document)
 
 pub invariant_of-self : goal.invariant_of-self
 invariant_of-self c =
     IsPage-kept c.args.self.now c.self.inside.tree c.self.inside.documents c.self.view_is c.entered.new.tree c.entered.new.self
     (kept_then c.self.inside.tree c.remove.new.self c.entered.new.tree
     (kept_removed (c.args.node.0) c.self.inside.tree c.remove.new.self c.remove.ensures.removed)
-    (kept_adopted c.args.document (c.args.node.0) c.remove.new.self c.entered.new.tree c.entered.ensures.adopted))
+    (kept_adopted c.args.document.0 (c.args.node.0) c.remove.new.self c.entered.new.tree c.entered.ensures.adopted))
     c.self.invariant
     (ap (λ (it : HeldDocuments). it.most) c.entered.ensures.shown ∙ ap (λ (it : HeldDocuments). it.most) c.set_root.ensures
     ∙ ap (λ (it : HeldDocuments). it.most) c.leave.ensures)
     (placing_framed (seen_tree carried_in c.self.inside.tree c.self.inside.documents.held) (seen_tree carried_in c.entered.new.tree c.entered.new.self.held)
-    (InDocument c.args.document) (c.args.node.0) (option_map number c.args.sibling) c.self.invariant.framed
-    (document_within c.args.self.now c.self.inside.tree c.self.inside.documents c.self.view_is c.args.document c.requires.document)
+    (InDocument c.args.document.0) (c.args.node.0) (option_map number c.args.sibling) c.self.invariant.framed
+    (document_within c.args.self.now c.self.inside.tree c.self.inside.documents c.self.view_is c.args.document.0 c.requires.document)
     (subst (λ (page : PageElements). c.args.node.0 < length page.tree.elements) (sym c.self.view_is) c.requires.node)
     (top_put c.self.inside.tree c.self.inside.documents c.holds-held.ensures.forest (c.args.node.0) c.leave.new.documents c.leave.ensures
-    c.remove.new.self c.remove.ensures.removed c.self.invariant.most_depth c.args.document c.set_root.new.self c.set_root.ensures
+    c.remove.new.self c.remove.ensures.removed c.self.invariant.most_depth c.args.document.0 c.set_root.new.self c.set_root.ensures
     (option_map number c.args.sibling) c.is_no_root.result c.is_no_root.ensures c.if-is_no_root.false
     (option_map number c.root_of.result) c.root_of.ensures (some_still number c.root_of.result ∙ sym c.is_some.ensures ∙ c.if-is_some.false)
     _ c.entered.ensures.inserted))
 
 pub returns-clause-done : goal.returns-clause-done
 returns-clause-done c =
-    ap (λ (page : PageElements). placing (InDocument c.args.document) (c.args.node.0) (option_map number c.args.sibling) (page.tree)) (sym c.self.view_is)
+    ap (λ (page : PageElements). placing (InDocument c.args.document.0) (c.args.node.0) (option_map number c.args.sibling) (page.tree)) (sym c.self.view_is)
     ∙ top_put c.self.inside.tree c.self.inside.documents c.holds-held.ensures.forest (c.args.node.0) c.leave.new.documents c.leave.ensures
-    c.remove.new.self c.remove.ensures.removed c.self.invariant.most_depth c.args.document c.set_root.new.self c.set_root.ensures
+    c.remove.new.self c.remove.ensures.removed c.self.invariant.most_depth c.args.document.0 c.set_root.new.self c.set_root.ensures
     (option_map number c.args.sibling) c.is_no_root.result c.is_no_root.ensures c.if-is_no_root.false
     (option_map number c.root_of.result) c.root_of.ensures (some_still number c.root_of.result ∙ sym c.is_some.ensures ∙ c.if-is_some.false)
     _ c.entered.ensures.inserted
@@ -68,26 +68,26 @@ returns-clause-rest c =
     kept_rest c.args.self.now c.self.inside.tree c.self.inside.documents c.self.view_is c.entered.new.tree c.entered.new.self
     (kept_then c.self.inside.tree c.remove.new.self c.entered.new.tree
     (kept_removed (c.args.node.0) c.self.inside.tree c.remove.new.self c.remove.ensures.removed)
-    (kept_adopted c.args.document (c.args.node.0) c.remove.new.self c.entered.new.tree c.entered.ensures.adopted))
+    (kept_adopted c.args.document.0 (c.args.node.0) c.remove.new.self c.entered.new.tree c.entered.ensures.adopted))
 
 pub returns-clause-count : goal.returns-clause-count
 returns-clause-count c =
     kept_count c.args.self.now c.self.inside.tree c.self.inside.documents c.self.view_is c.entered.new.tree c.entered.new.self
     (kept_then c.self.inside.tree c.remove.new.self c.entered.new.tree
     (kept_removed (c.args.node.0) c.self.inside.tree c.remove.new.self c.remove.ensures.removed)
-    (kept_adopted c.args.document (c.args.node.0) c.remove.new.self c.entered.new.tree c.entered.ensures.adopted))
+    (kept_adopted c.args.document.0 (c.args.node.0) c.remove.new.self c.entered.new.tree c.entered.ensures.adopted))
 
 pub returns-clause-documents : goal.returns-clause-documents
 returns-clause-documents c =
     ap (λ (it : HeldDocuments). length it.held) c.entered.ensures.shown
     ∙ shown_count _ (c.args.node.0)
     ∙ ap (λ (it : HeldDocuments). length it.held) c.set_root.ensures
-    ∙ change_length _ c.args.document _
+    ∙ change_length _ c.args.document.0 _
     ∙ ap (λ (it : HeldDocuments). length it.held) c.leave.ensures
     ∙ removed_count _ (c.args.node.0)
     ∙ ap (λ (page : PageElements). length page.tree.documents) c.self.view_is
 
 pub returns-clause-changes : goal.returns-clause-changes
 returns-clause-changes c =
-    placed_only (InDocument c.args.document) (c.args.node.0) (option_map number c.args.sibling) c.args.self.now.tree _
+    placed_only (InDocument c.args.document.0) (c.args.node.0) (option_map number c.args.sibling) c.args.self.now.tree _
     (subst (λ (page : PageElements). MakeTrees page.tree) c.self.view_is c.self.invariant.framed.trees) (returns-clause-done c)

@@ -13,6 +13,6 @@ invariant_of-self c =
 
 pub returns-else-remove : goal.returns-else-remove
 returns-else-remove c =
-    ap (λ targets. record { document = c.self.inside.document; handler = c.self.inside.handler; targets = targets; active = seen_observations c.self.inside.active.items; skipped = seen_observations c.self.inside.skipped.items })
+    ap (λ targets. record { document = c.self.inside.document.0; handler = c.self.inside.handler; targets = targets; active = seen_observations c.self.inside.active.items; skipped = seen_observations c.self.inside.skipped.items })
     (sym (absent_same c.args.target.0 (seen_observations c.self.inside.targets.items) (sym (c.self.invariant.elements c.args.target.0) ∙ sym c.remove.ensures.test ∙ c.if-remove.false)))
     ∙ ap (λ (it : ResizeObserver). record it { targets = without_observed c.args.target.0 it.targets }) c.self.view_is

@@ -11,7 +11,7 @@ invariant_of-self c =
     subst
     (λ (pending : List (List ScrollTarget)). IsHeld (record { elements = map seen_position c.self.inside.elements.items; documents = map seen_position c.self.inside.documents.items; pending = pending }))
     (sym c.take_list.ensures.taken)
-    (taken-held _ c.args.document c.self.invariant)
+    (taken-held _ c.args.document.0 c.self.invariant)
 
 pub returns-clause-distinct : goal.returns-clause-distinct
-returns-clause-distinct c = subst HasNoDoubles (sym c.take_list.ensures.value) (pending-distinct _ c.args.document c.self.invariant)
+returns-clause-distinct c = subst HasNoDoubles (sym c.take_list.ensures.value) (pending-distinct _ c.args.document.0 c.self.invariant)
