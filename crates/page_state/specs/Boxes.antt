@@ -1,6 +1,6 @@
 -- What becomes of the boxes that a page keeps. That boxes are kept, and when they are computed, is this project's own.
 use Rattle.std.specs.Prelude.{◌≡◌, ◌≤◌, ℕ, ◌+◌, Bool, ◌||◌, List, Option, Some, None, option_map, option_and_then, Result, OnOk, OnErr}
-use Rattle.script_model.specs.Syntax.{Operand, Test, Wider, Taller, Matches, Attached, Seen, Action, Viewport, SetRatio, MakeBlock, MakeImage, MakeFrame, Append, Before, Remove, SetStyle, Grow, Load, MakeResizeObserver, ObserveResize, UnobserveResize, DisconnectResize, MakeIntersectionObserver, ObserveIntersection, UnobserveIntersection, DisconnectIntersection, TakeIntersections, Listen, Unlisten, MakeQueryList, ScrollTo, ScrollBy, RequestFrame, CancelFrame, SetTimer, ClearTimer, Post, Say, Read}
+use Rattle.script_model.specs.Syntax.{Operand, Test, Wider, Taller, Matches, Attached, Seen, Action, SetRatio, MakeBlock, MakeImage, MakeFrame, Append, Before, Remove, SetStyle, Grow, Load, MakeQueryList, ScrollTo, ScrollBy, Read}
 use Rattle.page_model.specs.World.{Tree, World}
 use Rattle.page_model.specs.Lookups.{query_list_at}
 use Rattle.page_model.specs.Documents.{Container, InElement, InDocument, nodes_of, document_of_container}
@@ -86,7 +86,6 @@ Still old new from to = (new ≡ old) × (to ≡ from)
 
 -- what each command may do to the boxes, and with how many steps, in a world with this tree afterwards
 abbrev pub BoxesAfter : Present → Action → Result Effect PageFault → World → Tree → List Slot → List Slot → ℕ → ℕ → Type 0
-BoxesAfter _ (Viewport _ _) _ _ _ old new from to = Still old new from to
 BoxesAfter _ (SetRatio hundredths) _ world _ old new from to = Still old new from to × StaysDue hundredths world old new
 BoxesAfter _ (MakeBlock _ _) _ world after old new from to = LeavesDue world after old new × (to ≡ from)
 BoxesAfter _ (MakeImage _ _ _ _) _ world after old new from to = LeavesDue world after old new × (to ≡ from)
@@ -109,20 +108,4 @@ BoxesAfter _ (MakeQueryList _ document _) _ world _ old new from to = ComputesIn
 BoxesAfter present (ScrollTo scrolled _ _) _ world _ old new from to = ComputesIn world (document_meant world present scrolled) old new from to
 BoxesAfter present (ScrollBy scrolled _ _) _ world _ old new from to = ComputesIn world (document_meant world present scrolled) old new from to
 BoxesAfter present (Read shown) _ world _ old new from to = ComputesIn world (document_meant world present shown) old new from to
-BoxesAfter _ (MakeResizeObserver _ _ _) _ _ _ old new from to = Still old new from to
-BoxesAfter _ (ObserveResize _ _ _) _ _ _ old new from to = Still old new from to
-BoxesAfter _ (UnobserveResize _ _) _ _ _ old new from to = Still old new from to
-BoxesAfter _ (DisconnectResize _) _ _ _ old new from to = Still old new from to
-BoxesAfter _ (MakeIntersectionObserver _) _ _ _ old new from to = Still old new from to
-BoxesAfter _ (ObserveIntersection _ _) _ _ _ old new from to = Still old new from to
-BoxesAfter _ (UnobserveIntersection _ _) _ _ _ old new from to = Still old new from to
-BoxesAfter _ (DisconnectIntersection _) _ _ _ old new from to = Still old new from to
-BoxesAfter _ (TakeIntersections _) _ _ _ old new from to = Still old new from to
-BoxesAfter _ (Listen _ _ _) _ _ _ old new from to = Still old new from to
-BoxesAfter _ (Unlisten _ _ _) _ _ _ old new from to = Still old new from to
-BoxesAfter _ (RequestFrame _ _ _) _ _ _ old new from to = Still old new from to
-BoxesAfter _ (CancelFrame _ _) _ _ _ old new from to = Still old new from to
-BoxesAfter _ (SetTimer _ _ _ _) _ _ _ old new from to = Still old new from to
-BoxesAfter _ (ClearTimer _ _) _ _ _ old new from to = Still old new from to
-BoxesAfter _ (Post _ _) _ _ _ old new from to = Still old new from to
-BoxesAfter _ (Say _) _ _ _ old new from to = Still old new from to
+BoxesAfter _ action _ _ _ old new from to = Still old new from to

@@ -3,3 +3,4 @@ pub mod OperandParts
 pub mod LastNumber
 pub mod Minus
 pub mod Ended
+pub mod Actions

@@ -1,10 +1,8 @@
 //! Commands without a block, one function a command.
+#![tactic(auto, unfolding(crate::specs::Actions::Prints))]
 
-ghost use Rattle.std.specs.Prelude.{◌≡◌, ◌++◌, OnOk};
-ghost use Rattle.script_syntax.specs.Seen.{action_of};
 ghost use Rattle.script_syntax.specs.declared.commands.Action.TheVariants as action;
-ghost use Rattle.script_text.specs.Phrases.{action_words};
-ghost use Rattle.script_text.specs.ScriptText.{line_text};
+ghost use Rattle.script_print.specs.Actions.{Prints};
 
 use crate::operands::Entry::{
     Aimed, Declared, Dimension, Event, Handler, Length, Node, Observed, Percentage, Root, Signed,
@@ -21,8 +19,9 @@ use style_values::{Axis, Declaration};
 use text_io::{EventKind, Name};
 
 /// Appends the line of a command without a block.
+#[tactic(auto)]
 pub fn push_action(into: &mut Vec<u8>, action: &Action) -> Result<(), AllocError>
-    ensures { OnOk result (into.new.items ≡ into.old.items ++ line_text (action_words (action_of action.now))) }
+    ensures { Prints result into.old.items into.new.items action.now }
 {
     match action {
         Action::Viewport(size) => viewport(into, *size),
@@ -103,7 +102,7 @@ pub fn push_action(into: &mut Vec<u8>, action: &Action) -> Result<(), AllocError
 
 /// `viewport WIDTH HEIGHT`
 fn viewport(into: &mut Vec<u8>, size: Size) -> Result<(), AllocError>
-    ensures { OnOk result (into.new.items ≡ into.old.items ++ line_text (action_words (action_of (action.Viewport size)))) }
+    ensures { Prints result into.old.items into.new.items (action.Viewport size) }
 {
     push_line(
         into,
@@ -114,21 +113,21 @@ fn viewport(into: &mut Vec<u8>, size: Size) -> Result<(), AllocError>
 
 /// `ratio PERCENT`
 fn ratio(into: &mut Vec<u8>, ratio: Percent) -> Result<(), AllocError>
-    ensures { OnOk result (into.new.items ≡ into.old.items ++ line_text (action_words (action_of (action.Ratio ratio)))) }
+    ensures { Prints result into.old.items into.new.items (action.Ratio ratio) }
 {
     push_line(into, b"ratio", &[Percentage(ratio)])
 }
 
 /// `block NAME DOCUMENT`
 fn block(into: &mut Vec<u8>, name: Name, document: Name) -> Result<(), AllocError>
-    ensures { OnOk result (into.new.items ≡ into.old.items ++ line_text (action_words (action_of (action.Block name document)))) }
+    ensures { Prints result into.old.items into.new.items (action.Block name document) }
 {
     push_line(into, b"block", &[Word(name), Word(document)])
 }
 
 /// `image NAME DOCUMENT WIDTH HEIGHT`
 fn image(into: &mut Vec<u8>, name: Name, document: Name, size: Size) -> Result<(), AllocError>
-    ensures { OnOk result (into.new.items ≡ into.old.items ++ line_text (action_words (action_of (action.Image name document size)))) }
+    ensures { Prints result into.old.items into.new.items (action.Image name document size) }
 {
     push_line(
         into,
@@ -144,14 +143,14 @@ fn image(into: &mut Vec<u8>, name: Name, document: Name, size: Size) -> Result<(
 
 /// `frame NAME DOCUMENT INSIDE`
 fn frame(into: &mut Vec<u8>, name: Name, document: Name, inside: Name) -> Result<(), AllocError>
-    ensures { OnOk result (into.new.items ≡ into.old.items ++ line_text (action_words (action_of (action.Frame name document inside)))) }
+    ensures { Prints result into.old.items into.new.items (action.Frame name document inside) }
 {
     push_line(into, b"frame", &[Word(name), Word(document), Word(inside)])
 }
 
 /// `append PARENT NODE`
 fn append(into: &mut Vec<u8>, parent: Operand, node: Operand) -> Result<(), AllocError>
-    ensures { OnOk result (into.new.items ≡ into.old.items ++ line_text (action_words (action_of (action.Append parent node)))) }
+    ensures { Prints result into.old.items into.new.items (action.Append parent node) }
 {
     push_line(into, b"append", &[Node(parent), Node(node)])
 }
@@ -163,35 +162,35 @@ fn before(
     node: Operand,
     sibling: Operand,
 ) -> Result<(), AllocError>
-    ensures { OnOk result (into.new.items ≡ into.old.items ++ line_text (action_words (action_of (action.Before parent node sibling)))) }
+    ensures { Prints result into.old.items into.new.items (action.Before parent node sibling) }
 {
     push_line(into, b"before", &[Node(parent), Node(node), Node(sibling)])
 }
 
 /// `remove NODE`
 fn remove(into: &mut Vec<u8>, node: Operand) -> Result<(), AllocError>
-    ensures { OnOk result (into.new.items ≡ into.old.items ++ line_text (action_words (action_of (action.Remove node)))) }
+    ensures { Prints result into.old.items into.new.items (action.Remove node) }
 {
     push_line(into, b"remove", &[Node(node)])
 }
 
 /// `set NODE PROPERTY VALUE`
 fn set(into: &mut Vec<u8>, node: Operand, declaration: Declaration) -> Result<(), AllocError>
-    ensures { OnOk result (into.new.items ≡ into.old.items ++ line_text (action_words (action_of (action.Set node declaration)))) }
+    ensures { Prints result into.old.items into.new.items (action.Set node declaration) }
 {
     push_line(into, b"set", &[Node(node), Declared(declaration)])
 }
 
 /// `grow NODE AXIS BY`
 fn grow(into: &mut Vec<u8>, node: Operand, axis: Axis, by: Px) -> Result<(), AllocError>
-    ensures { OnOk result (into.new.items ≡ into.old.items ++ line_text (action_words (action_of (action.Grow node axis by)))) }
+    ensures { Prints result into.old.items into.new.items (action.Grow node axis by) }
 {
     push_line(into, b"grow", &[Node(node), Dimension(axis), Signed(by.0)])
 }
 
 /// `load NODE WIDTH HEIGHT`
 fn load(into: &mut Vec<u8>, node: Operand, size: Size) -> Result<(), AllocError>
-    ensures { OnOk result (into.new.items ≡ into.old.items ++ line_text (action_words (action_of (action.Load node size)))) }
+    ensures { Prints result into.old.items into.new.items (action.Load node size) }
 {
     push_line(
         into,
@@ -207,7 +206,7 @@ fn ro(
     document: Name,
     handler: Option<Name>,
 ) -> Result<(), AllocError>
-    ensures { OnOk result (into.new.items ≡ into.old.items ++ line_text (action_words (action_of (action.Ro name document handler)))) }
+    ensures { Prints result into.old.items into.new.items (action.Ro name document handler) }
 {
     push_line(into, b"ro", &[Word(name), Word(document), Handler(handler)])
 }
@@ -219,7 +218,7 @@ fn ro_observe(
     node: Operand,
     observed: BoxKind,
 ) -> Result<(), AllocError>
-    ensures { OnOk result (into.new.items ≡ into.old.items ++ line_text (action_words (action_of (action.RoObserve observer node observed)))) }
+    ensures { Prints result into.old.items into.new.items (action.RoObserve observer node observed) }
 {
     push_line(
         into,
@@ -230,14 +229,14 @@ fn ro_observe(
 
 /// `ro-unobserve OBSERVER NODE`
 fn ro_unobserve(into: &mut Vec<u8>, observer: Name, node: Operand) -> Result<(), AllocError>
-    ensures { OnOk result (into.new.items ≡ into.old.items ++ line_text (action_words (action_of (action.RoUnobserve observer node)))) }
+    ensures { Prints result into.old.items into.new.items (action.RoUnobserve observer node) }
 {
     push_line(into, b"ro-unobserve", &[Word(observer), Node(node)])
 }
 
 /// `ro-disconnect OBSERVER`
 fn ro_disconnect(into: &mut Vec<u8>, observer: Name) -> Result<(), AllocError>
-    ensures { OnOk result (into.new.items ≡ into.old.items ++ line_text (action_words (action_of (action.RoDisconnect observer)))) }
+    ensures { Prints result into.old.items into.new.items (action.RoDisconnect observer) }
 {
     push_line(into, b"ro-disconnect", &[Word(observer)])
 }
@@ -245,7 +244,7 @@ fn ro_disconnect(into: &mut Vec<u8>, observer: Name) -> Result<(), AllocError>
 /// `io NAME DOCUMENT HANDLER root ROOT margin WORD* scroll WORD* threshold NUMBER*`, without `scroll` where no scroll margin was
 /// given.
 fn io(into: &mut Vec<u8>, making: &IoMaking) -> Result<(), AllocError>
-    ensures { OnOk result (into.new.items ≡ into.old.items ++ line_text (action_words (action_of (action.Io making.now)))) }
+    ensures { Prints result into.old.items into.new.items (action.Io making.now) }
 {
     push_line(
         into,
@@ -266,42 +265,42 @@ fn io(into: &mut Vec<u8>, making: &IoMaking) -> Result<(), AllocError>
 
 /// `io-observe OBSERVER NODE`
 fn io_observe(into: &mut Vec<u8>, observer: Name, node: Operand) -> Result<(), AllocError>
-    ensures { OnOk result (into.new.items ≡ into.old.items ++ line_text (action_words (action_of (action.IoObserve observer node)))) }
+    ensures { Prints result into.old.items into.new.items (action.IoObserve observer node) }
 {
     push_line(into, b"io-observe", &[Word(observer), Node(node)])
 }
 
 /// `io-unobserve OBSERVER NODE`
 fn io_unobserve(into: &mut Vec<u8>, observer: Name, node: Operand) -> Result<(), AllocError>
-    ensures { OnOk result (into.new.items ≡ into.old.items ++ line_text (action_words (action_of (action.IoUnobserve observer node)))) }
+    ensures { Prints result into.old.items into.new.items (action.IoUnobserve observer node) }
 {
     push_line(into, b"io-unobserve", &[Word(observer), Node(node)])
 }
 
 /// `io-disconnect OBSERVER`
 fn io_disconnect(into: &mut Vec<u8>, observer: Name) -> Result<(), AllocError>
-    ensures { OnOk result (into.new.items ≡ into.old.items ++ line_text (action_words (action_of (action.IoDisconnect observer)))) }
+    ensures { Prints result into.old.items into.new.items (action.IoDisconnect observer) }
 {
     push_line(into, b"io-disconnect", &[Word(observer)])
 }
 
 /// `io-take OBSERVER`
 fn io_take(into: &mut Vec<u8>, observer: Name) -> Result<(), AllocError>
-    ensures { OnOk result (into.new.items ≡ into.old.items ++ line_text (action_words (action_of (action.IoTake observer)))) }
+    ensures { Prints result into.old.items into.new.items (action.IoTake observer) }
 {
     push_line(into, b"io-take", &[Word(observer)])
 }
 
 /// `listen AIM EVENT HANDLER`
 fn listen(into: &mut Vec<u8>, aim: Aim, event: EventKind, handler: Name) -> Result<(), AllocError>
-    ensures { OnOk result (into.new.items ≡ into.old.items ++ line_text (action_words (action_of (action.Listen aim event handler)))) }
+    ensures { Prints result into.old.items into.new.items (action.Listen aim event handler) }
 {
     push_line(into, b"listen", &[Aimed(aim), Event(event), Word(handler)])
 }
 
 /// `unlisten AIM EVENT HANDLER`
 fn unlisten(into: &mut Vec<u8>, aim: Aim, event: EventKind, handler: Name) -> Result<(), AllocError>
-    ensures { OnOk result (into.new.items ≡ into.old.items ++ line_text (action_words (action_of (action.Unlisten aim event handler)))) }
+    ensures { Prints result into.old.items into.new.items (action.Unlisten aim event handler) }
 {
     push_line(
         into,
@@ -312,7 +311,7 @@ fn unlisten(into: &mut Vec<u8>, aim: Aim, event: EventKind, handler: Name) -> Re
 
 /// `media NAME DOCUMENT QUERY`
 fn media(into: &mut Vec<u8>, name: Name, document: Name, query: &Query) -> Result<(), AllocError>
-    ensures { OnOk result (into.new.items ≡ into.old.items ++ line_text (action_words (action_of (action.Media name document query.now)))) }
+    ensures { Prints result into.old.items into.new.items (action.Media name document query.now) }
 {
     push_line(into, b"media", &[Word(name), Word(document)])?;
     push_query(into, query)?;
@@ -321,7 +320,7 @@ fn media(into: &mut Vec<u8>, name: Name, document: Name, query: &Query) -> Resul
 
 /// `scroll NODE LEFT TOP`
 fn scroll(into: &mut Vec<u8>, node: Operand, to: Point) -> Result<(), AllocError>
-    ensures { OnOk result (into.new.items ≡ into.old.items ++ line_text (action_words (action_of (action.Scroll node to)))) }
+    ensures { Prints result into.old.items into.new.items (action.Scroll node to) }
 {
     push_line(
         into,
@@ -332,7 +331,7 @@ fn scroll(into: &mut Vec<u8>, node: Operand, to: Point) -> Result<(), AllocError
 
 /// `scroll-by NODE LEFT TOP`
 fn scroll_by(into: &mut Vec<u8>, node: Operand, by: Point) -> Result<(), AllocError>
-    ensures { OnOk result (into.new.items ≡ into.old.items ++ line_text (action_words (action_of (action.ScrollBy node by)))) }
+    ensures { Prints result into.old.items into.new.items (action.ScrollBy node by) }
 {
     push_line(
         into,
@@ -343,14 +342,14 @@ fn scroll_by(into: &mut Vec<u8>, node: Operand, by: Point) -> Result<(), AllocEr
 
 /// `raf DOCUMENT KEY HANDLER`
 fn raf(into: &mut Vec<u8>, document: Name, key: Name, handler: Name) -> Result<(), AllocError>
-    ensures { OnOk result (into.new.items ≡ into.old.items ++ line_text (action_words (action_of (action.Raf document key handler)))) }
+    ensures { Prints result into.old.items into.new.items (action.Raf document key handler) }
 {
     push_line(into, b"raf", &[Word(document), Word(key), Word(handler)])
 }
 
 /// `cancel-raf DOCUMENT KEY`
 fn cancel_raf(into: &mut Vec<u8>, document: Name, key: Name) -> Result<(), AllocError>
-    ensures { OnOk result (into.new.items ≡ into.old.items ++ line_text (action_words (action_of (action.CancelRaf document key)))) }
+    ensures { Prints result into.old.items into.new.items (action.CancelRaf document key) }
 {
     push_line(into, b"cancel-raf", &[Word(document), Word(key)])
 }
@@ -363,7 +362,7 @@ fn timer(
     delay: u64,
     handler: Name,
 ) -> Result<(), AllocError>
-    ensures { OnOk result (into.new.items ≡ into.old.items ++ line_text (action_words (action_of (action.Timer document key delay handler)))) }
+    ensures { Prints result into.old.items into.new.items (action.Timer document key delay handler) }
 {
     push_line(
         into,
@@ -374,28 +373,28 @@ fn timer(
 
 /// `clear-timer DOCUMENT KEY`
 fn clear_timer(into: &mut Vec<u8>, document: Name, key: Name) -> Result<(), AllocError>
-    ensures { OnOk result (into.new.items ≡ into.old.items ++ line_text (action_words (action_of (action.ClearTimer document key)))) }
+    ensures { Prints result into.old.items into.new.items (action.ClearTimer document key) }
 {
     push_line(into, b"clear-timer", &[Word(document), Word(key)])
 }
 
 /// `post DOCUMENT HANDLER`
 fn post(into: &mut Vec<u8>, document: Name, handler: Name) -> Result<(), AllocError>
-    ensures { OnOk result (into.new.items ≡ into.old.items ++ line_text (action_words (action_of (action.Post document handler)))) }
+    ensures { Prints result into.old.items into.new.items (action.Post document handler) }
 {
     push_line(into, b"post", &[Word(document), Word(handler)])
 }
 
 /// `say WORD`
 fn say(into: &mut Vec<u8>, word: Name) -> Result<(), AllocError>
-    ensures { OnOk result (into.new.items ≡ into.old.items ++ line_text (action_words (action_of (action.Say word)))) }
+    ensures { Prints result into.old.items into.new.items (action.Say word) }
 {
     push_line(into, b"say", &[Word(word)])
 }
 
 /// `read NODE`
 fn read(into: &mut Vec<u8>, node: Operand) -> Result<(), AllocError>
-    ensures { OnOk result (into.new.items ≡ into.old.items ++ line_text (action_words (action_of (action.Read node)))) }
+    ensures { Prints result into.old.items into.new.items (action.Read node) }
 {
     push_line(into, b"read", &[Node(node)])
 }

@@ -1,3 +1,4 @@
+pub mod Alike
 pub mod Declared
 pub mod Endings
 pub mod Finishes

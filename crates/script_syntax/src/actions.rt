@@ -1,9 +1,8 @@
-//! Commands without a block, one function a command. Where both versions read a command alike, its function says it of the
-//! first one.
+//! Commands without a block, one function a command. Where both versions read a command alike, its function says it of
+//! each.
 
 ghost use Rattle.std.specs.Prelude.{IfOk};
-ghost use Rattle.text_io.specs.declared.kinds.Version.TheVariants.{First};
-ghost use Rattle.script_syntax.specs.Acts.{Acts};
+ghost use Rattle.script_syntax.specs.Acts.{Acts, ActsAlike};
 ghost use Rattle.script_syntax.specs.Allowed.{ActionAllowed};
 ghost use Rattle.script_syntax.specs.declared.heads.Verb.TheVariants as verb;
 
@@ -17,6 +16,7 @@ use std::alloc::Global;
 use text_io::Version;
 
 /// The command whose operands these words are, all of them.
+#[tactic(auto, using(crate::proofs::Alike::in_version))]
 pub fn action(
     alloc: Global,
     version: Version,
@@ -63,9 +63,9 @@ pub fn action(
 }
 
 /// `viewport WIDTH HEIGHT`
-#[tactic(auto, unfolding(script_model::specs::Forms::made, crate::specs::Acts::Acts))]
+#[tactic(auto, unfolding(script_model::specs::Forms::made, crate::specs::Acts::Acts, crate::specs::Acts::ActsAlike))]
 fn viewport(words: &mut Words<'_>) -> Result<Action, LineFault>
-    ensures value { Acts result First verb.Viewport words.old }
+    ensures value { ActsAlike result verb.Viewport words.old }
     ensures allowed { IfOk result (λ action. ActionAllowed action) }
 {
     let width = words.length()?;
@@ -78,9 +78,9 @@ fn viewport(words: &mut Words<'_>) -> Result<Action, LineFault>
 }
 
 /// `ratio PERCENT`
-#[tactic(auto, unfolding(script_model::specs::Forms::made, crate::specs::Acts::Acts))]
+#[tactic(auto, unfolding(script_model::specs::Forms::made, crate::specs::Acts::Acts, crate::specs::Acts::ActsAlike))]
 fn ratio(words: &mut Words<'_>) -> Result<Action, LineFault>
-    ensures value { Acts result First verb.Ratio words.old }
+    ensures value { ActsAlike result verb.Ratio words.old }
     ensures allowed { IfOk result (λ action. ActionAllowed action) }
 {
     let ratio = words.percent()?;
@@ -89,9 +89,9 @@ fn ratio(words: &mut Words<'_>) -> Result<Action, LineFault>
 }
 
 /// `block NAME DOCUMENT`
-#[tactic(auto, unfolding(script_model::specs::Forms::made, crate::specs::Acts::Acts))]
+#[tactic(auto, unfolding(script_model::specs::Forms::made, crate::specs::Acts::Acts, crate::specs::Acts::ActsAlike))]
 fn block(words: &mut Words<'_>) -> Result<Action, LineFault>
-    ensures value { Acts result First verb.Block words.old }
+    ensures value { ActsAlike result verb.Block words.old }
     ensures allowed { IfOk result (λ action. ActionAllowed action) }
 {
     let name = words.name()?;
@@ -101,9 +101,9 @@ fn block(words: &mut Words<'_>) -> Result<Action, LineFault>
 }
 
 /// `image NAME DOCUMENT WIDTH HEIGHT`
-#[tactic(auto, unfolding(script_model::specs::Forms::made, crate::specs::Acts::Acts))]
+#[tactic(auto, unfolding(script_model::specs::Forms::made, crate::specs::Acts::Acts, crate::specs::Acts::ActsAlike))]
 fn image(words: &mut Words<'_>) -> Result<Action, LineFault>
-    ensures value { Acts result First verb.Image words.old }
+    ensures value { ActsAlike result verb.Image words.old }
     ensures allowed { IfOk result (λ action. ActionAllowed action) }
 {
     let name = words.name()?;
@@ -122,9 +122,9 @@ fn image(words: &mut Words<'_>) -> Result<Action, LineFault>
 }
 
 /// `frame NAME DOCUMENT INSIDE`
-#[tactic(auto, unfolding(script_model::specs::Forms::made, crate::specs::Acts::Acts))]
+#[tactic(auto, unfolding(script_model::specs::Forms::made, crate::specs::Acts::Acts, crate::specs::Acts::ActsAlike))]
 fn frame(words: &mut Words<'_>) -> Result<Action, LineFault>
-    ensures value { Acts result First verb.Frame words.old }
+    ensures value { ActsAlike result verb.Frame words.old }
     ensures allowed { IfOk result (λ action. ActionAllowed action) }
 {
     let name = words.name()?;
@@ -139,9 +139,9 @@ fn frame(words: &mut Words<'_>) -> Result<Action, LineFault>
 }
 
 /// `append PARENT NODE`
-#[tactic(auto, unfolding(script_model::specs::Forms::made, crate::specs::Acts::Acts))]
+#[tactic(auto, unfolding(script_model::specs::Forms::made, crate::specs::Acts::Acts, crate::specs::Acts::ActsAlike))]
 fn append(words: &mut Words<'_>) -> Result<Action, LineFault>
-    ensures value { Acts result First verb.Append words.old }
+    ensures value { ActsAlike result verb.Append words.old }
     ensures allowed { IfOk result (λ action. ActionAllowed action) }
 {
     let parent = words.node()?;
@@ -151,9 +151,9 @@ fn append(words: &mut Words<'_>) -> Result<Action, LineFault>
 }
 
 /// `before PARENT NODE SIBLING`
-#[tactic(auto, unfolding(script_model::specs::Forms::made, crate::specs::Acts::Acts))]
+#[tactic(auto, unfolding(script_model::specs::Forms::made, crate::specs::Acts::Acts, crate::specs::Acts::ActsAlike))]
 fn before(words: &mut Words<'_>) -> Result<Action, LineFault>
-    ensures value { Acts result First verb.Before words.old }
+    ensures value { ActsAlike result verb.Before words.old }
     ensures allowed { IfOk result (λ action. ActionAllowed action) }
 {
     let parent = words.node()?;
@@ -168,9 +168,9 @@ fn before(words: &mut Words<'_>) -> Result<Action, LineFault>
 }
 
 /// `remove NODE`
-#[tactic(auto, unfolding(script_model::specs::Forms::made, crate::specs::Acts::Acts))]
+#[tactic(auto, unfolding(script_model::specs::Forms::made, crate::specs::Acts::Acts, crate::specs::Acts::ActsAlike))]
 fn remove(words: &mut Words<'_>) -> Result<Action, LineFault>
-    ensures value { Acts result First verb.Remove words.old }
+    ensures value { ActsAlike result verb.Remove words.old }
     ensures allowed { IfOk result (λ action. ActionAllowed action) }
 {
     let node = words.node()?;
@@ -191,9 +191,9 @@ fn set(version: Version, words: &mut Words<'_>) -> Result<Action, LineFault>
 }
 
 /// `grow NODE AXIS BY`
-#[tactic(auto, unfolding(script_model::specs::Forms::made, crate::specs::Acts::Acts))]
+#[tactic(auto, unfolding(script_model::specs::Forms::made, crate::specs::Acts::Acts, crate::specs::Acts::ActsAlike))]
 fn grow(words: &mut Words<'_>) -> Result<Action, LineFault>
-    ensures value { Acts result First verb.Grow words.old }
+    ensures value { ActsAlike result verb.Grow words.old }
     ensures allowed { IfOk result (λ action. ActionAllowed action) }
 {
     let node = words.node()?;
@@ -204,9 +204,9 @@ fn grow(words: &mut Words<'_>) -> Result<Action, LineFault>
 }
 
 /// `load NODE WIDTH HEIGHT`
-#[tactic(auto, unfolding(script_model::specs::Forms::made, crate::specs::Acts::Acts))]
+#[tactic(auto, unfolding(script_model::specs::Forms::made, crate::specs::Acts::Acts, crate::specs::Acts::ActsAlike))]
 fn load(words: &mut Words<'_>) -> Result<Action, LineFault>
-    ensures value { Acts result First verb.Load words.old }
+    ensures value { ActsAlike result verb.Load words.old }
     ensures allowed { IfOk result (λ action. ActionAllowed action) }
 {
     let node = words.node()?;
@@ -223,9 +223,9 @@ fn load(words: &mut Words<'_>) -> Result<Action, LineFault>
 }
 
 /// `ro NAME DOCUMENT HANDLER`
-#[tactic(auto, unfolding(script_model::specs::Forms::made, crate::specs::Acts::Acts))]
+#[tactic(auto, unfolding(script_model::specs::Forms::made, crate::specs::Acts::Acts, crate::specs::Acts::ActsAlike))]
 fn ro(words: &mut Words<'_>) -> Result<Action, LineFault>
-    ensures value { Acts result First verb.Ro words.old }
+    ensures value { ActsAlike result verb.Ro words.old }
     ensures allowed { IfOk result (λ action. ActionAllowed action) }
 {
     let name = words.name()?;
@@ -257,9 +257,9 @@ fn ro_observe(version: Version, words: &mut Words<'_>) -> Result<Action, LineFau
 }
 
 /// `ro-unobserve OBSERVER NODE`
-#[tactic(auto, unfolding(script_model::specs::Forms::made, crate::specs::Acts::Acts))]
+#[tactic(auto, unfolding(script_model::specs::Forms::made, crate::specs::Acts::Acts, crate::specs::Acts::ActsAlike))]
 fn ro_unobserve(words: &mut Words<'_>) -> Result<Action, LineFault>
-    ensures value { Acts result First verb.RoUnobserve words.old }
+    ensures value { ActsAlike result verb.RoUnobserve words.old }
     ensures allowed { IfOk result (λ action. ActionAllowed action) }
 {
     let observer = words.name()?;
@@ -269,9 +269,9 @@ fn ro_unobserve(words: &mut Words<'_>) -> Result<Action, LineFault>
 }
 
 /// `ro-disconnect OBSERVER`
-#[tactic(auto, unfolding(script_model::specs::Forms::made, crate::specs::Acts::Acts))]
+#[tactic(auto, unfolding(script_model::specs::Forms::made, crate::specs::Acts::Acts, crate::specs::Acts::ActsAlike))]
 fn ro_disconnect(words: &mut Words<'_>) -> Result<Action, LineFault>
-    ensures value { Acts result First verb.RoDisconnect words.old }
+    ensures value { ActsAlike result verb.RoDisconnect words.old }
     ensures allowed { IfOk result (λ action. ActionAllowed action) }
 {
     let observer = words.name()?;
@@ -308,9 +308,9 @@ fn io(alloc: Global, version: Version, words: &mut Words<'_>) -> Result<Action, 
 }
 
 /// `io-observe OBSERVER NODE`
-#[tactic(auto, unfolding(script_model::specs::Forms::made, crate::specs::Acts::Acts))]
+#[tactic(auto, unfolding(script_model::specs::Forms::made, crate::specs::Acts::Acts, crate::specs::Acts::ActsAlike))]
 fn io_observe(words: &mut Words<'_>) -> Result<Action, LineFault>
-    ensures value { Acts result First verb.IoObserve words.old }
+    ensures value { ActsAlike result verb.IoObserve words.old }
     ensures allowed { IfOk result (λ action. ActionAllowed action) }
 {
     let observer = words.name()?;
@@ -320,9 +320,9 @@ fn io_observe(words: &mut Words<'_>) -> Result<Action, LineFault>
 }
 
 /// `io-unobserve OBSERVER NODE`
-#[tactic(auto, unfolding(script_model::specs::Forms::made, crate::specs::Acts::Acts))]
+#[tactic(auto, unfolding(script_model::specs::Forms::made, crate::specs::Acts::Acts, crate::specs::Acts::ActsAlike))]
 fn io_unobserve(words: &mut Words<'_>) -> Result<Action, LineFault>
-    ensures value { Acts result First verb.IoUnobserve words.old }
+    ensures value { ActsAlike result verb.IoUnobserve words.old }
     ensures allowed { IfOk result (λ action. ActionAllowed action) }
 {
     let observer = words.name()?;
@@ -332,9 +332,9 @@ fn io_unobserve(words: &mut Words<'_>) -> Result<Action, LineFault>
 }
 
 /// `io-disconnect OBSERVER`
-#[tactic(auto, unfolding(script_model::specs::Forms::made, crate::specs::Acts::Acts))]
+#[tactic(auto, unfolding(script_model::specs::Forms::made, crate::specs::Acts::Acts, crate::specs::Acts::ActsAlike))]
 fn io_disconnect(words: &mut Words<'_>) -> Result<Action, LineFault>
-    ensures value { Acts result First verb.IoDisconnect words.old }
+    ensures value { ActsAlike result verb.IoDisconnect words.old }
     ensures allowed { IfOk result (λ action. ActionAllowed action) }
 {
     let observer = words.name()?;
@@ -343,9 +343,9 @@ fn io_disconnect(words: &mut Words<'_>) -> Result<Action, LineFault>
 }
 
 /// `io-take OBSERVER`
-#[tactic(auto, unfolding(script_model::specs::Forms::made, crate::specs::Acts::Acts))]
+#[tactic(auto, unfolding(script_model::specs::Forms::made, crate::specs::Acts::Acts, crate::specs::Acts::ActsAlike))]
 fn io_take(words: &mut Words<'_>) -> Result<Action, LineFault>
-    ensures value { Acts result First verb.IoTake words.old }
+    ensures value { ActsAlike result verb.IoTake words.old }
     ensures allowed { IfOk result (λ action. ActionAllowed action) }
 {
     let observer = words.name()?;
@@ -354,9 +354,9 @@ fn io_take(words: &mut Words<'_>) -> Result<Action, LineFault>
 }
 
 /// `listen AIM EVENT HANDLER`
-#[tactic(auto, unfolding(script_model::specs::Forms::made, crate::specs::Acts::Acts))]
+#[tactic(auto, unfolding(script_model::specs::Forms::made, crate::specs::Acts::Acts, crate::specs::Acts::ActsAlike))]
 fn listen(words: &mut Words<'_>) -> Result<Action, LineFault>
-    ensures value { Acts result First verb.Listen words.old }
+    ensures value { ActsAlike result verb.Listen words.old }
     ensures allowed { IfOk result (λ action. ActionAllowed action) }
 {
     let aim = words.aim()?;
@@ -371,9 +371,9 @@ fn listen(words: &mut Words<'_>) -> Result<Action, LineFault>
 }
 
 /// `unlisten AIM EVENT HANDLER`
-#[tactic(auto, unfolding(script_model::specs::Forms::made, crate::specs::Acts::Acts))]
+#[tactic(auto, unfolding(script_model::specs::Forms::made, crate::specs::Acts::Acts, crate::specs::Acts::ActsAlike))]
 fn unlisten(words: &mut Words<'_>) -> Result<Action, LineFault>
-    ensures value { Acts result First verb.Unlisten words.old }
+    ensures value { ActsAlike result verb.Unlisten words.old }
     ensures allowed { IfOk result (λ action. ActionAllowed action) }
 {
     let aim = words.aim()?;
@@ -388,9 +388,9 @@ fn unlisten(words: &mut Words<'_>) -> Result<Action, LineFault>
 }
 
 /// `media NAME DOCUMENT QUERY`
-#[tactic(auto, unfolding(script_model::specs::Forms::made, crate::specs::Acts::Acts))]
+#[tactic(auto, unfolding(script_model::specs::Forms::made, crate::specs::Acts::Acts, crate::specs::Acts::ActsAlike))]
 fn media(alloc: Global, words: &mut Words<'_>) -> Result<Action, LineFault>
-    ensures value { Acts result First verb.Media words.old }
+    ensures value { ActsAlike result verb.Media words.old }
     ensures allowed { IfOk result (λ action. ActionAllowed action) }
 {
     let name = words.name()?;
@@ -405,9 +405,9 @@ fn media(alloc: Global, words: &mut Words<'_>) -> Result<Action, LineFault>
 }
 
 /// `scroll TARGET LEFT TOP`
-#[tactic(auto, unfolding(script_model::specs::Forms::made, crate::specs::Acts::Acts))]
+#[tactic(auto, unfolding(script_model::specs::Forms::made, crate::specs::Acts::Acts, crate::specs::Acts::ActsAlike))]
 fn scroll(words: &mut Words<'_>) -> Result<Action, LineFault>
-    ensures value { Acts result First verb.Scroll words.old }
+    ensures value { ActsAlike result verb.Scroll words.old }
     ensures allowed { IfOk result (λ action. ActionAllowed action) }
 {
     let target = words.node()?;
@@ -424,9 +424,9 @@ fn scroll(words: &mut Words<'_>) -> Result<Action, LineFault>
 }
 
 /// `scroll-by TARGET LEFT TOP`
-#[tactic(auto, unfolding(script_model::specs::Forms::made, crate::specs::Acts::Acts))]
+#[tactic(auto, unfolding(script_model::specs::Forms::made, crate::specs::Acts::Acts, crate::specs::Acts::ActsAlike))]
 fn scroll_by(words: &mut Words<'_>) -> Result<Action, LineFault>
-    ensures value { Acts result First verb.ScrollBy words.old }
+    ensures value { ActsAlike result verb.ScrollBy words.old }
     ensures allowed { IfOk result (λ action. ActionAllowed action) }
 {
     let target = words.node()?;
@@ -443,9 +443,9 @@ fn scroll_by(words: &mut Words<'_>) -> Result<Action, LineFault>
 }
 
 /// `raf DOCUMENT KEY HANDLER`
-#[tactic(auto, unfolding(script_model::specs::Forms::made, crate::specs::Acts::Acts))]
+#[tactic(auto, unfolding(script_model::specs::Forms::made, crate::specs::Acts::Acts, crate::specs::Acts::ActsAlike))]
 fn raf(words: &mut Words<'_>) -> Result<Action, LineFault>
-    ensures value { Acts result First verb.Raf words.old }
+    ensures value { ActsAlike result verb.Raf words.old }
     ensures allowed { IfOk result (λ action. ActionAllowed action) }
 {
     let document = words.name()?;
@@ -460,9 +460,9 @@ fn raf(words: &mut Words<'_>) -> Result<Action, LineFault>
 }
 
 /// `cancel-raf DOCUMENT KEY`
-#[tactic(auto, unfolding(script_model::specs::Forms::made, crate::specs::Acts::Acts))]
+#[tactic(auto, unfolding(script_model::specs::Forms::made, crate::specs::Acts::Acts, crate::specs::Acts::ActsAlike))]
 fn cancel_raf(words: &mut Words<'_>) -> Result<Action, LineFault>
-    ensures value { Acts result First verb.CancelRaf words.old }
+    ensures value { ActsAlike result verb.CancelRaf words.old }
     ensures allowed { IfOk result (λ action. ActionAllowed action) }
 {
     let document = words.name()?;
@@ -472,9 +472,9 @@ fn cancel_raf(words: &mut Words<'_>) -> Result<Action, LineFault>
 }
 
 /// `timer DOCUMENT KEY DELAY HANDLER`
-#[tactic(auto, unfolding(script_model::specs::Forms::made, crate::specs::Acts::Acts))]
+#[tactic(auto, unfolding(script_model::specs::Forms::made, crate::specs::Acts::Acts, crate::specs::Acts::ActsAlike))]
 fn timer(words: &mut Words<'_>) -> Result<Action, LineFault>
-    ensures value { Acts result First verb.Timer words.old }
+    ensures value { ActsAlike result verb.Timer words.old }
     ensures allowed { IfOk result (λ action. ActionAllowed action) }
 {
     let document = words.name()?;
@@ -491,9 +491,9 @@ fn timer(words: &mut Words<'_>) -> Result<Action, LineFault>
 }
 
 /// `clear-timer DOCUMENT KEY`
-#[tactic(auto, unfolding(script_model::specs::Forms::made, crate::specs::Acts::Acts))]
+#[tactic(auto, unfolding(script_model::specs::Forms::made, crate::specs::Acts::Acts, crate::specs::Acts::ActsAlike))]
 fn clear_timer(words: &mut Words<'_>) -> Result<Action, LineFault>
-    ensures value { Acts result First verb.ClearTimer words.old }
+    ensures value { ActsAlike result verb.ClearTimer words.old }
     ensures allowed { IfOk result (λ action. ActionAllowed action) }
 {
     let document = words.name()?;
@@ -503,9 +503,9 @@ fn clear_timer(words: &mut Words<'_>) -> Result<Action, LineFault>
 }
 
 /// `post DOCUMENT HANDLER`
-#[tactic(auto, unfolding(script_model::specs::Forms::made, crate::specs::Acts::Acts))]
+#[tactic(auto, unfolding(script_model::specs::Forms::made, crate::specs::Acts::Acts, crate::specs::Acts::ActsAlike))]
 fn post(words: &mut Words<'_>) -> Result<Action, LineFault>
-    ensures value { Acts result First verb.Post words.old }
+    ensures value { ActsAlike result verb.Post words.old }
     ensures allowed { IfOk result (λ action. ActionAllowed action) }
 {
     let document = words.name()?;
@@ -515,9 +515,9 @@ fn post(words: &mut Words<'_>) -> Result<Action, LineFault>
 }
 
 /// `say WORD`
-#[tactic(auto, unfolding(script_model::specs::Forms::made, crate::specs::Acts::Acts))]
+#[tactic(auto, unfolding(script_model::specs::Forms::made, crate::specs::Acts::Acts, crate::specs::Acts::ActsAlike))]
 fn say(words: &mut Words<'_>) -> Result<Action, LineFault>
-    ensures value { Acts result First verb.Say words.old }
+    ensures value { ActsAlike result verb.Say words.old }
     ensures allowed { IfOk result (λ action. ActionAllowed action) }
 {
     let word = words.name()?;
@@ -526,9 +526,9 @@ fn say(words: &mut Words<'_>) -> Result<Action, LineFault>
 }
 
 /// `read TARGET`
-#[tactic(auto, unfolding(script_model::specs::Forms::made, crate::specs::Acts::Acts))]
+#[tactic(auto, unfolding(script_model::specs::Forms::made, crate::specs::Acts::Acts, crate::specs::Acts::ActsAlike))]
 fn read(words: &mut Words<'_>) -> Result<Action, LineFault>
-    ensures value { Acts result First verb.Read words.old }
+    ensures value { ActsAlike result verb.Read words.old }
     ensures allowed { IfOk result (λ action. ActionAllowed action) }
 {
     let target = words.node()?;

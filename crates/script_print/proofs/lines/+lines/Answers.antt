@@ -2,6 +2,7 @@ use Rattle.std.proofs.Common.{◌≡◌, ◌+◌, ◌≤◌, ◌++◌, ap, sym, 
 use Rattle.script_syntax.specs.Seen.{command_of, command_at, condition_of, block_of, action_of, command_size, block_size}
 use Rattle.script_text.specs.NumberedLines.{command_lines}
 use Rattle.script_text.specs.ScriptText.{lines_text}
+use Rattle.script_print.specs.Actions.{Prints}
 use Rattle.script_print.specs.LastNumber.{last_number}
 use Rattle.script_print.proofs.Blocks.{simple_pushed, simple_last, each_pushed, each_last, when_pushed, when_last, lines_on, last_on, lines_end, last_end, blocks_are}
 use Rattle.script_syntax.proofs.Walked.{simple_is, each_size, when_size, size_within}
@@ -43,6 +44,7 @@ push_command-returns-in_ok-last-in-When-clause-last t c =
     ∙ ap (λ what. last_number c.args.after (command_lines (command_at c.args.command.now.line what))) (sym c.in-When.is)
 
 pub push_command-returns-in_ok-push_action-in-Act : goal.push_command-returns-in_ok-push_action-in-Act
+unfolding Prints
 push_command-returns-in_ok-push_action-in-Act t c =
     let simple = simple_is c.args.command.now.line c.args.command.now.what c.in-Act.action c.in-Act.is in
     record {

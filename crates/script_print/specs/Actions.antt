@@ -1,0 +1,10 @@
+-- The line of a command without a block, printed.
+use Rattle.std.specs.Prelude.{◌≡◌, ℕ, List, ◌++◌, Result, OnOk}
+use Rattle.script_syntax.specs.Seen.{action_of}
+use Rattle.script_syntax.specs.declared.commands.Action.{Action}
+use Rattle.script_text.specs.Phrases.{action_words}
+use Rattle.script_text.specs.ScriptText.{line_text}
+
+-- behind what was there before stands the command's line too, where there was memory
+unfoldable pub Prints : {A E : Type 0} → Result A E → List ℕ → List ℕ → Action → Type 0
+Prints result old new action = OnOk result (new ≡ old ++ line_text (action_words (action_of action)))
