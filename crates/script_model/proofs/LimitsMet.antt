@@ -1,14 +1,15 @@
 -- The limits that a text meets are the same in each version.
 use Rattle.std.proofs.Common.{◌≡◌, refl, subst, ℕ, Bool, true, false, List, [], ◌∷◌}
-use Rattle.std.specs.Prelude.{cond, Result, Ok, Err}
+use Rattle.std.specs.Prelude.{cond, nat_lt, length, Result, Ok, Err}
 use Rattle.text_io.specs.declared.kinds.Version.{Version}
 use Rattle.text_io.specs.declared.kinds.LimitKind.{LimitKind}
-use Rattle.text_io.specs.Limits.{IsCommon}
-use Rattle.script_model.specs.Syntax.{Item}
+use Rattle.text_io.specs.declared.kinds.LimitKind.TheVariants as limits
+use Rattle.text_io.specs.Limits.{IsCommon, common_limit}
+use Rattle.script_model.specs.Syntax.{Item, Script}
 use Rattle.script_model.specs.Readers.{◌>>=◌, with_fault}
 use Rattle.script_model.specs.Lexing.{Line, Ending, Whole, BadByte, LongLine, Lexed, lexed}
 use Rattle.script_model.specs.Statements.{Statement, Does, Ticks, OpensEach, OpensWhen, OpensHandler, Ends}
-use Rattle.script_model.specs.Reading.{Refusal, SyntaxAt, LimitAt, Frame, State, open_block, open_handler, placed, step, steps, finished, read_lines, read_lexed, reading}
+use Rattle.script_model.specs.Reading.{Refusal, SyntaxAt, LimitAt, Frame, State, open_block, open_handler, placed, step, steps, finished, read_lines, last_line, read_lexed, reading}
 
 abbrev pub MeetsCommon : {A : Type 0} → Result A Refusal → Type 0
 MeetsCommon (Ok value) = Unit {0}
@@ -67,13 +68,15 @@ pub lexed_common : (text : Lexed) → MeetsCommon (read_lexed text)
 unfolding read_lexed
 lexed_common text = lines_common text.lines text.ending
 
-either : {A : Type 0} (long : Bool) (first second : Result A Refusal) → MeetsCommon first → MeetsCommon second → MeetsCommon (cond long first second)
-either true first second one two = one
-either false first second one two = two
+chosen_long : (long : Bool) (line : ℕ) (read : Result Script Refusal) → MeetsCommon read → MeetsCommon (cond long (Err (LimitAt limits.Script line)) read)
+chosen_long true line read common = refl
+chosen_long false line read common = common
 
 reading_common : (text : List ℕ) → MeetsCommon (reading text)
 unfolding reading
-reading_common text = either _ _ _ refl (lexed_common (lexed text))
+reading_common text =
+    chosen_long (nat_lt (common_limit limits.Script) (length text)) (last_line (common_limit limits.Script) text) (read_lexed (lexed text))
+    (lexed_common (lexed text))
 
 pub met_is_common : (text : List ℕ) (kind : LimitKind) (line : ℕ) → reading text ≡ Err (LimitAt kind line) → IsCommon kind
 met_is_common text kind line met = subst MeetsCommon met (reading_common text)
