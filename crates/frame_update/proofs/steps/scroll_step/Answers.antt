@@ -6,13 +6,15 @@ use Rattle.page_model.specs.Callbacks.{fire}
 use Rattle.page_model.specs.Ticks.{event_target_of, scrolled_text}
 use Rattle.scrolling.specs.Seen.{seen_target}
 use Rattle.trace_runs.proofs.Runs.{only_if_false, run_same, silent_run}
+use Rattle.frame_update.proofs.Going.{arrived}
 use Rattle.frame_update.proofs.steps.scroll_step.Goals as goal
 
-pub returns-then-not-is_active-clause-says : goal.returns-then-not-is_active-clause-says
-returns-then-not-is_active-clause-says g c =
-    run_same
+pub returns-then-not-is_active : goal.returns-then-not-is_active
+returns-then-not-is_active g c =
+    arrived refl refl c.requires.ready
+    (run_same
     (sym
     (only_if_false
-    (λ now. fire (handlers_in c.args.script.now.items) (FiredScroll (scrolled_text (now.names) (seen_target c.args.target))) (event_target_of (seen_target c.args.target)) events.Scroll now)
-    c.args.page.now.world (sym c.if-not-is_active.ensures)))
-    (silent_run refl)
+    (λ now. fire (handlers_in c.args.run.now.script.now.items) (FiredScroll (scrolled_text (now.names) (seen_target c.args.target))) (event_target_of (seen_target c.args.target)) events.Scroll now)
+    c.args.run.now.page.now.world (sym c.if-not-is_active.ensures)))
+    (silent_run refl))
