@@ -27,8 +27,8 @@ pub loop-handler-preserved : goal.loop-handler-preserved
 loop-handler-preserved g c = record {
   way =
       run_goes_on c.loop-handler.invariant.way c.in_ok-call_handler.ensures refl (λ (script : Script). for_each (notify_listener script) c.next_listener.new.dispatch)
-      (next_called (handlers_in c.loop-handler.run.script.now.items) c.loop-handler.dispatch c.loop-handler.run.page.now.world (seen_target c.args.target) c.callback_of-document.result.0.0 c.in-Some.handler.0
-      c.next_listener.new.dispatch c.loop-handler.invariant.at c.in-Some.ensures.value c.in-Some.ensures.left c.callback_of-document.ensures.document);
+      (next_called (handlers_in c.loop-handler.run.script.now.items) c.loop-handler.dispatch c.loop-handler.run.page.now.world (seen_target c.args.target) c.callback_of.result.0.0 c.in-Some.handler.0
+      c.next_listener.new.dispatch c.loop-handler.invariant.at c.in-Some.ensures.value c.in-Some.ensures.left c.callback_of.ensures.document);
   at =
       left_at (handlers_in c.loop-handler.run.script.now.items) c.loop-handler.dispatch c.loop-handler.run.page.now.world (seen_target c.args.target) c.next_listener.new.dispatch c.loop-handler.invariant.at c.in-Some.ensures.left;
 }
@@ -36,8 +36,8 @@ loop-handler-preserved g c = record {
 pub returns-in_err-call_handler : goal.returns-in_err-call_handler
 returns-in_err-call_handler g c =
     run_is_cut c.loop-handler.invariant.way c.in_err-call_handler.ensures refl (λ (script : Script). for_each (notify_listener script) c.next_listener.new.dispatch)
-    (next_called (handlers_in c.loop-handler.run.script.now.items) c.loop-handler.dispatch c.loop-handler.run.page.now.world (seen_target c.args.target) c.callback_of-document.result.0.0 c.in-Some.handler.0
-    c.next_listener.new.dispatch c.loop-handler.invariant.at c.in-Some.ensures.value c.in-Some.ensures.left c.callback_of-document.ensures.document)
+    (next_called (handlers_in c.loop-handler.run.script.now.items) c.loop-handler.dispatch c.loop-handler.run.page.now.world (seen_target c.args.target) c.callback_of.result.0.0 c.in-Some.handler.0
+    c.next_listener.new.dispatch c.loop-handler.invariant.at c.in-Some.ensures.value c.in-Some.ensures.left c.callback_of.ensures.document)
     c.from_residual.result c.from_residual.ensures
 
 pub returns : goal.returns

@@ -10,8 +10,8 @@ use Rattle.frame_update.proofs.FrameTurns.{copied_of, frames_all, frames_left, f
 use Rattle.frame_update.proofs.Going.{run_begins, run_goes_on, run_is_cut, run_is_done}
 use Rattle.frame_update.proofs.frames.frame_steps.Goals as goal
 
-pub loop-run-init : goal.loop-run-init
-loop-run-init g c = record {
+pub loop-document-init : goal.loop-document-init
+loop-document-init g c = record {
   way =
       run_begins refl c.requires.ready
       (frames_all (handlers_in c.args.run.now.script.now.items) c.args.document.0 c.args.run.now.page.now.world
@@ -21,34 +21,34 @@ loop-run-init g c = record {
 
 pub returns-in_default-next_frame : goal.returns-in_default-next_frame
 returns-in_default-next_frame g c =
-    run_is_done c.loop-run.invariant.way refl
-    (still_prepared c.loop-run.run.script.now.items c.loop-run.run.page.now.world c.next_frame.new.self.world c.next_frame.ensures.ready c.loop-run.invariant.way.ready)
-    (frames_none (handlers_in c.loop-run.run.script.now.items) c.args.document.0 c.loop-run.batch c.loop-run.run.page.now.world c.next_frame.new.self.world (sym c.loop-run-test.ensures) c.in_default-next_frame.ensures.value (ap (λ (page : PageView). page.world) c.next_frame.ensures.removed))
+    run_is_done c.loop-document.invariant.way refl
+    (still_prepared c.loop-document.run.script.now.items c.loop-document.run.page.now.world c.next_frame.new.self.world c.next_frame.ensures.ready c.loop-document.invariant.way.ready)
+    (frames_none (handlers_in c.loop-document.run.script.now.items) c.args.document.0 c.loop-document.batch c.loop-document.run.page.now.world c.next_frame.new.self.world (sym c.loop-document-test.ensures) c.in_default-next_frame.ensures.value (ap (λ (page : PageView). page.world) c.next_frame.ensures.removed))
 
 pub run_frame_callback-requires-clause-ready : goal.run_frame_callback-requires-clause-ready
 run_frame_callback-requires-clause-ready g c =
-    still_prepared c.loop-run.run.script.now.items c.loop-run.run.page.now.world c.next_frame.new.self.world c.next_frame.ensures.ready c.loop-run.invariant.way.ready
+    still_prepared c.loop-document.run.script.now.items c.loop-document.run.page.now.world c.next_frame.new.self.world c.next_frame.ensures.ready c.loop-document.invariant.way.ready
 
-pub loop-run-smaller : goal.loop-run-smaller
-loop-run-smaller g c = omega (arith, fewer_left told (stands_now c.loop-run.run.page.now.world) _ c.loop-run.batch c.in-Some.ensures.value, ap length c.next_frame.ensures.left)
+pub loop-document-smaller : goal.loop-document-smaller
+loop-document-smaller g c = omega (arith, fewer_left told (stands_now c.loop-document.run.page.now.world) _ c.loop-document.batch c.in-Some.ensures.value, ap length c.next_frame.ensures.left)
 
-pub loop-run-preserved : goal.loop-run-preserved
-loop-run-preserved g c = record {
+pub loop-document-preserved : goal.loop-document-preserved
+loop-document-preserved g c = record {
   way =
-      run_goes_on c.loop-run.invariant.way c.in_ok-run_frame_callback.ensures refl (λ (script : Script). frames_left script c.args.document.0 c.next_frame.new.batch)
-      (frames_more (handlers_in c.loop-run.run.script.now.items) c.args.document.0 c.loop-run.batch c.loop-run.run.page.now.world c.in-Some.callback.0 c.in-Some.callback.1.0 c.next_frame.new.self.world _ (sym c.loop-run-test.ensures)
-      c.loop-run.invariant.own c.in-Some.ensures.value (ap (λ (page : PageView). page.world) c.next_frame.ensures.removed) c.next_frame.ensures.left);
-  own = others_of (handlers_in c.loop-run.run.script.now.items) c.args.document.0 c.loop-run.batch c.loop-run.run.page.now.world _ c.next_frame.ensures.left c.loop-run.invariant.own;
+      run_goes_on c.loop-document.invariant.way c.in_ok-run_frame_callback.ensures refl (λ (script : Script). frames_left script c.args.document.0 c.next_frame.new.batch)
+      (frames_more (handlers_in c.loop-document.run.script.now.items) c.args.document.0 c.loop-document.batch c.loop-document.run.page.now.world c.in-Some.callback.0 c.in-Some.callback.1.0 c.next_frame.new.self.world _ (sym c.loop-document-test.ensures)
+      c.loop-document.invariant.own c.in-Some.ensures.value (ap (λ (page : PageView). page.world) c.next_frame.ensures.removed) c.next_frame.ensures.left);
+  own = others_of (handlers_in c.loop-document.run.script.now.items) c.args.document.0 c.loop-document.batch c.loop-document.run.page.now.world _ c.next_frame.ensures.left c.loop-document.invariant.own;
 }
 
 pub returns-in_err-run_frame_callback : goal.returns-in_err-run_frame_callback
 returns-in_err-run_frame_callback g c =
-    run_is_cut c.loop-run.invariant.way c.in_err-run_frame_callback.ensures refl (λ (script : Script). frames_left script c.args.document.0 c.next_frame.new.batch)
-    (frames_more (handlers_in c.loop-run.run.script.now.items) c.args.document.0 c.loop-run.batch c.loop-run.run.page.now.world c.in-Some.callback.0 c.in-Some.callback.1.0 c.next_frame.new.self.world _ (sym c.loop-run-test.ensures)
-    c.loop-run.invariant.own c.in-Some.ensures.value (ap (λ (page : PageView). page.world) c.next_frame.ensures.removed) c.next_frame.ensures.left)
+    run_is_cut c.loop-document.invariant.way c.in_err-run_frame_callback.ensures refl (λ (script : Script). frames_left script c.args.document.0 c.next_frame.new.batch)
+    (frames_more (handlers_in c.loop-document.run.script.now.items) c.args.document.0 c.loop-document.batch c.loop-document.run.page.now.world c.in-Some.callback.0 c.in-Some.callback.1.0 c.next_frame.new.self.world _ (sym c.loop-document-test.ensures)
+    c.loop-document.invariant.own c.in-Some.ensures.value (ap (λ (page : PageView). page.world) c.next_frame.ensures.removed) c.next_frame.ensures.left)
     c.from_residual.result c.from_residual.ensures
 
 pub returns : goal.returns
 returns g c =
-    run_is_done c.loop-run.invariant.way refl c.loop-run.invariant.way.ready
-    (frames_quiet (handlers_in c.loop-run.run.script.now.items) c.args.document.0 c.loop-run.batch c.loop-run.run.page.now.world (sym c.loop-run-test.ensures))
+    run_is_done c.loop-document.invariant.way refl c.loop-document.invariant.way.ready
+    (frames_quiet (handlers_in c.loop-document.run.script.now.items) c.args.document.0 c.loop-document.batch c.loop-document.run.page.now.world (sym c.loop-document-test.ensures))

@@ -6,13 +6,13 @@ use Rattle.frame_update.proofs.Going.{IsOnItsWay}
 use Rattle.frame_update.proofs.frames.frame_steps.Given as goal
 
 -- the frame callbacks up to here were run, and those of the batch that still stand follow
-abbrev pub invariant-loop-run : goal.invariant-loop-run
-invariant-loop-run g l = record {
+abbrev pub invariant-loop-document : goal.invariant-loop-document
+invariant-loop-document g l = record {
   way :
       IsOnItsWay g.K.Sink.taken g.K.Sink.faults l.fn.run l.run (λ (script : Script). frame_steps script l.document.0 l.fn.run.page.now.world)
       (λ (script : Script). frames_left script l.document.0 l.batch l.run.page.now.world);
   own : AreOf l.document.0 l.batch;
 }
 
-abbrev pub decreases-loop-run : goal.decreases-loop-run
-decreases-loop-run g l = length l.batch
+abbrev pub decreases-loop-document : goal.decreases-loop-document
+decreases-loop-document g l = length l.batch

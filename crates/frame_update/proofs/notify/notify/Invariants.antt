@@ -11,7 +11,7 @@ use Rattle.frame_update.proofs.notify.notify.Given as goal
 abbrev pub invariant-loop-watcher : goal.invariant-loop-watcher
 invariant-loop-watcher g l = record {
   way :
-      IsOnItsWay g.K.Sink.taken g.K.Sink.faults l.fn.run l.run (λ (script : Script). notify script l.document.0 l.fn.run.page.now.world)
+      IsOnItsWay g.K.Sink.taken g.K.Sink.faults l.fn.run l.run (λ (script : Script). notify script l.fn.document.0 l.fn.run.page.now.world)
       (λ (script : Script). for_each (λ (item : WatcherId). notify_watcher script (item.0)) (drop l.watcher-index l.watcher-items) l.run.page.now.world);
   there : AreThere l.run.page.now.world l.watcher-items;
 }

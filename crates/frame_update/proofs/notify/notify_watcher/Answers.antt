@@ -19,8 +19,8 @@ returns-then-is_empty g c =
     (sym c.take_records-records.ensures.value ∙ empty_seen seen_entry c.as_slice.result.now c.take_records-records.result c.as_slice.ensures (sym c.if-is_empty.ensures))))
     (silent_run refl))
 
-pub callback_of-document-requires : goal.callback_of-document-requires
-callback_of-document-requires g c =
+pub callback_of-handler-requires : goal.callback_of-handler-requires
+callback_of-handler-requires g c =
     there_taken c.args.watcher.0 c.args.run.now.page.now.world c.take_records-records.new.self.world (ap (λ (page : PageView). page.world) c.take_records-records.ensures.taken) c.args.watcher.0
     c.requires.made
 
@@ -38,5 +38,5 @@ returns g c =
     (turn_run (handlers_in c.args.run.now.script.now.items) c.args.watcher.0 c.args.run.now.page.now.world c.take_records-records.new.self.world c.take_records-records.result
     c.take_records-records.ensures.value
     (filled_seen seen_entry c.as_slice.result.now c.take_records-records.result c.as_slice.ensures (sym c.if-is_empty.ensures))
-    (ap (λ (page : PageView). page.world) c.take_records-records.ensures.taken) c.callback_of-document.result.0.0 (option_map (λ it. it.0) c.callback_of-document.result.1)
-    c.callback_of-document.ensures.document c.callback_of-document.ensures.handler c.call_handler.result c.call_handler.ensures.says)
+    (ap (λ (page : PageView). page.world) c.take_records-records.ensures.taken) c.callback_of-handler.result.0.0 (option_map (λ it. it.0) c.callback_of-handler.result.1)
+    c.callback_of-handler.ensures.document c.callback_of-handler.ensures.handler c.call_handler.result c.call_handler.ensures.says)

@@ -13,76 +13,76 @@ use Rattle.frame_update.proofs.Broadcasts.{broadcast_begins, broadcast_cut, broa
 use Rattle.frame_update.proofs.Ready.{still_prepared}
 use Rattle.frame_update.proofs.rounds.broadcast.Goals as goal
 
-pub loop-run-init : goal.loop-run-init
-loop-run-init g c = record { turns = broadcast_begins c.args.run.now.script.now.items c.args.document.0 _ _ c.args.run.now.page.now.world c.requires.ready; script = refl; lent = refl }
+pub loop-document-init : goal.loop-document-init
+loop-document-init g c = record { turns = broadcast_begins c.args.run.now.script.now.items c.args.document.0 _ _ c.args.run.now.page.now.world c.requires.ready; script = refl; lent = refl }
 
 pub returns-in_default : goal.returns-in_default
 returns-in_default g c = record {
-  says = over_first (λ (script : Script). broadcast script c.args.document.0 c.args.run.now.page.now.world) c.loop-run.invariant.script (end_memory c.loop-run.invariant.turns.following);
+  says = over_first (λ (script : Script). broadcast script c.args.document.0 c.args.run.now.page.now.world) c.loop-document.invariant.script (end_memory c.loop-document.invariant.turns.following);
   ready = tt;
-  script = c.loop-run.invariant.script;
-  lent = c.loop-run.invariant.lent;
+  script = c.loop-document.invariant.script;
+  lent = c.loop-document.invariant.lent;
 }
 
 pub returns-in_default-next : goal.returns-in_default-next
 returns-in_default-next g c =
-    arrived c.loop-run.invariant.script c.loop-run.invariant.lent (still_prepared c.loop-run.run.script.now.items c.loop-run.run.page.now.world c.next_delivery.new.self.world c.in-Ok.ensures.ready c.loop-run.invariant.turns.ready)
-    (over_first (λ (script : Script). broadcast script c.args.document.0 c.args.run.now.page.now.world) c.loop-run.invariant.script
-    (broadcast_none c.loop-run.invariant.turns (sym (rw c.in_default-next.is at c.in-Ok.ensures.turn)) (ap (λ (page : PageView). page.world) c.in-Ok.ensures.reported) (sym c.loop-run-test.ensures)))
+    arrived c.loop-document.invariant.script c.loop-document.invariant.lent (still_prepared c.loop-document.run.script.now.items c.loop-document.run.page.now.world c.next_delivery.new.self.world c.in-Ok.ensures.ready c.loop-document.invariant.turns.ready)
+    (over_first (λ (script : Script). broadcast script c.args.document.0 c.args.run.now.page.now.world) c.loop-document.invariant.script
+    (broadcast_none c.loop-document.invariant.turns (sym (rw c.in_default-next.is at c.in-Ok.ensures.turn)) (ap (λ (page : PageView). page.world) c.in-Ok.ensures.reported) (sym c.loop-document-test.ensures)))
 
 pub call_observer-requires-clause-ready : goal.call_observer-requires-clause-ready
-call_observer-requires-clause-ready g c = still_prepared c.loop-run.run.script.now.items c.loop-run.run.page.now.world c.next_delivery.new.self.world c.in-Ok.ensures.ready c.loop-run.invariant.turns.ready
+call_observer-requires-clause-ready g c = still_prepared c.loop-document.run.script.now.items c.loop-document.run.page.now.world c.next_delivery.new.self.world c.in-Ok.ensures.ready c.loop-document.invariant.turns.ready
 
 pub call_observer-requires-clause-observer : goal.call_observer-requires-clause-observer
 call_observer-requires-clause-observer g c =
     let it = c.in-Ok.ensures in
-    handed_made c.args.document.0 c.loop-run.place c.loop-run.run.page.now.world c.next_delivery.new.self.world c.in-Some.delivery
+    handed_made c.args.document.0 c.loop-document.place c.loop-document.run.page.now.world c.next_delivery.new.self.world c.in-Some.delivery
     (handed_out _ _ _ _ c.in-Ok.next c.in-Some.delivery c.in-Some.is it.turn it.entries (ap (λ (page : PageView). page.world) it.reported) it.made it.some)
 
 pub call_observer-requires-clause-entries : goal.call_observer-requires-clause-entries
 call_observer-requires-clause-entries g c =
     let it = c.in-Ok.ensures in
-    handed_entries c.args.document.0 c.loop-run.place c.loop-run.run.page.now.world c.next_delivery.new.self.world c.in-Some.delivery
+    handed_entries c.args.document.0 c.loop-document.place c.loop-document.run.page.now.world c.next_delivery.new.self.world c.in-Some.delivery
     (handed_out _ _ _ _ c.in-Ok.next c.in-Some.delivery c.in-Some.is it.turn it.entries (ap (λ (page : PageView). page.world) it.reported) it.made it.some)
-    c.loop-run.run.script.now.items c.loop-run.invariant.turns.ready
+    c.loop-document.run.script.now.items c.loop-document.invariant.turns.ready
 
-pub loop-run-smaller : goal.loop-run-smaller
-loop-run-smaller g c =
+pub loop-document-smaller : goal.loop-document-smaller
+loop-document-smaller g c =
     let it = c.in-Ok.ensures in
     let handed =
-    handed_out c.args.document.0 c.loop-run.place c.loop-run.run.page.now.world c.next_delivery.new.self.world c.in-Ok.next c.in-Some.delivery c.in-Some.is it.turn it.entries
+    handed_out c.args.document.0 c.loop-document.place c.loop-document.run.page.now.world c.next_delivery.new.self.world c.in-Ok.next c.in-Some.delivery c.in-Some.is it.turn it.entries
     (ap (λ (page : PageView). page.world) it.reported) it.made it.some in
-    omega (arith, place_few c.loop-run.invariant.turns, place_past c.loop-run.invariant.turns handed)
+    omega (arith, place_few c.loop-document.invariant.turns, place_past c.loop-document.invariant.turns handed)
 
-pub loop-run-preserved : goal.loop-run-preserved
-loop-run-preserved g c =
+pub loop-document-preserved : goal.loop-document-preserved
+loop-document-preserved g c =
     let it = c.in-Ok.ensures in
     let handed =
-    handed_out c.args.document.0 c.loop-run.place c.loop-run.run.page.now.world c.next_delivery.new.self.world c.in-Ok.next c.in-Some.delivery c.in-Some.is it.turn it.entries
+    handed_out c.args.document.0 c.loop-document.place c.loop-document.run.page.now.world c.next_delivery.new.self.world c.in-Ok.next c.in-Some.delivery c.in-Some.is it.turn it.entries
     (ap (λ (page : PageView). page.world) it.reported) it.made it.some in
     let called = c.in_ok-call_observer.ensures in
     record {
       turns =
           rw (called.script, c.shallower-least.ensures)
-          (broadcast_on c.loop-run.invariant.turns handed (sym c.loop-run-test.ensures) (c.entries_are_those_of_a_broadcast.ensures.entries (sight_of c.loop-run.run.page.now.world) (active_at c.loop-run.run.page.now.world.resize_observers c.in-Some.delivery.observer.0)) c.least_depth.ensures called.says
+          (broadcast_on c.loop-document.invariant.turns handed (sym c.loop-document-test.ensures) (c.entries_are_those_of_a_broadcast.ensures.entries (sight_of c.loop-document.run.page.now.world) (active_at c.loop-document.run.page.now.world.resize_observers c.in-Some.delivery.observer.0)) c.least_depth.ensures called.says
           (subst (λ (it : Bor syntax.Script). IsPrepared it.now.items c.call_observer.new.run.page.now.world) called.script called.ready));
-      script = called.script ∙ c.loop-run.invariant.script;
-      lent = called.lent ∙ c.loop-run.invariant.lent;
+      script = called.script ∙ c.loop-document.invariant.script;
+      lent = called.lent ∙ c.loop-document.invariant.lent;
     }
 
 pub returns-in_err-call_observer : goal.returns-in_err-call_observer
 returns-in_err-call_observer g c =
     let it = c.in-Ok.ensures in
     let handed =
-    handed_out c.args.document.0 c.loop-run.place c.loop-run.run.page.now.world c.next_delivery.new.self.world c.in-Ok.next c.in-Some.delivery c.in-Some.is it.turn it.entries
+    handed_out c.args.document.0 c.loop-document.place c.loop-document.run.page.now.world c.next_delivery.new.self.world c.in-Ok.next c.in-Some.delivery c.in-Some.is it.turn it.entries
     (ap (λ (page : PageView). page.world) it.reported) it.made it.some in
     let called = c.in_err-call_observer.ensures in
-    stopped c.from_residual.result c.in_err-call_observer.field-0.0 c.from_residual.ensures (called.script ∙ c.loop-run.invariant.script) (called.lent ∙ c.loop-run.invariant.lent)
-    (over_first (λ (script : Script). broadcast script c.args.document.0 c.args.run.now.page.now.world) c.loop-run.invariant.script
-    (broadcast_cut c.loop-run.invariant.turns handed (sym c.loop-run-test.ensures) (c.entries_are_those_of_a_broadcast.ensures.entries (sight_of c.loop-run.run.page.now.world) (active_at c.loop-run.run.page.now.world.resize_observers c.in-Some.delivery.observer.0)) c.least_depth.ensures c.in_err-call_observer.field-0.0 called.says))
+    stopped c.from_residual.result c.in_err-call_observer.field-0.0 c.from_residual.ensures (called.script ∙ c.loop-document.invariant.script) (called.lent ∙ c.loop-document.invariant.lent)
+    (over_first (λ (script : Script). broadcast script c.args.document.0 c.args.run.now.page.now.world) c.loop-document.invariant.script
+    (broadcast_cut c.loop-document.invariant.turns handed (sym c.loop-document-test.ensures) (c.entries_are_those_of_a_broadcast.ensures.entries (sight_of c.loop-document.run.page.now.world) (active_at c.loop-document.run.page.now.world.resize_observers c.in-Some.delivery.observer.0)) c.least_depth.ensures c.in_err-call_observer.field-0.0 called.says))
 
 pub returns : goal.returns
 returns g c =
-    arrived c.loop-run.invariant.script c.loop-run.invariant.lent c.loop-run.invariant.turns.ready
-    (over_first (λ (script : Script). broadcast script c.args.document.0 c.args.run.now.page.now.world) c.loop-run.invariant.script
-    (broadcast_left c.loop-run.invariant.turns (sym c.loop-run-test.ensures)))
+    arrived c.loop-document.invariant.script c.loop-document.invariant.lent c.loop-document.invariant.turns.ready
+    (over_first (λ (script : Script). broadcast script c.args.document.0 c.args.run.now.page.now.world) c.loop-document.invariant.script
+    (broadcast_left c.loop-document.invariant.turns (sym c.loop-document-test.ensures)))

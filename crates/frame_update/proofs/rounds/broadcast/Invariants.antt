@@ -4,8 +4,8 @@ use Rattle.frame_update.proofs.Broadcasts.{IsBroadcasting}
 use Rattle.frame_update.proofs.rounds.broadcast.Given as goal
 
 -- the turns up to this place were taken
-abbrev pub invariant-loop-run : goal.invariant-loop-run
-invariant-loop-run g l = record {
+abbrev pub invariant-loop-document : goal.invariant-loop-document
+invariant-loop-document g l = record {
   turns :
       IsBroadcasting l.run.script.now.items l.document.0 (g.K.Sink.taken l.fn.run.sink.now) (g.K.Sink.taken l.run.sink.now) (g.K.Sink.faults l.fn.run.sink.now) (g.K.Sink.faults l.run.sink.now)
       l.fn.run.page.now.world l.place l.least l.run.page.now.world;
@@ -13,5 +13,5 @@ invariant-loop-run g l = record {
   lent : loans_of l.run ≡ loans_of l.fn.run;
 }
 
-abbrev pub decreases-loop-run : goal.decreases-loop-run
-decreases-loop-run g l = 4097 - l.place
+abbrev pub decreases-loop-document : goal.decreases-loop-document
+decreases-loop-document g l = 4097 - l.place

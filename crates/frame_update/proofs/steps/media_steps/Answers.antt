@@ -8,45 +8,45 @@ use Rattle.frame_update.proofs.Ready.{still_prepared}
 use Rattle.frame_update.proofs.Going.{run_begins, run_goes_on, run_is_cut, run_is_done}
 use Rattle.frame_update.proofs.steps.media_steps.Goals as goal
 
-pub loop-run-init : goal.loop-run-init
-loop-run-init g c =
+pub loop-document-init : goal.loop-document-init
+loop-document-init g c =
     run_begins refl c.requires.ready
     (media_turns (handlers_in c.args.run.now.script.now.items) c.args.document.0 c.args.run.now.page.now.world)
 
 pub returns-in_default : goal.returns-in_default
 returns-in_default g c =
-    run_is_done c.loop-run.invariant refl (still_prepared c.loop-run.run.script.now.items c.loop-run.run.page.now.world c.next_change.new.self.world c.in_default.ensures.ready c.loop-run.invariant.ready)
-    (none_told (handlers_in c.loop-run.run.script.now.items) c.args.document.0 c.loop-run.run.page.now.world c.loop-run-test.ensures c.loop-run.invariant.ready.limits.queries c.loop-run.place
+    run_is_done c.loop-document.invariant refl (still_prepared c.loop-document.run.script.now.items c.loop-document.run.page.now.world c.next_change.new.self.world c.in_default.ensures.ready c.loop-document.invariant.ready)
+    (none_told (handlers_in c.loop-document.run.script.now.items) c.args.document.0 c.loop-document.run.page.now.world c.loop-document-test.ensures c.loop-document.invariant.ready.limits.queries c.loop-document.place
     c.next_change.new.self.world c.in_default.ensures.query (ap (λ (page : PageView). page.world) c.in_default.ensures.evaluated))
 
 pub report_change-requires-clause-ready : goal.report_change-requires-clause-ready
-report_change-requires-clause-ready g c = still_prepared c.loop-run.run.script.now.items c.loop-run.run.page.now.world c.next_change.new.self.world c.in-Some.ensures.ready c.loop-run.invariant.ready
+report_change-requires-clause-ready g c = still_prepared c.loop-document.run.script.now.items c.loop-document.run.page.now.world c.next_change.new.self.world c.in-Some.ensures.ready c.loop-document.invariant.ready
 
 pub report_change-requires-clause-query : goal.report_change-requires-clause-query
 report_change-requires-clause-query g c =
-    evaluated_there c.args.document.0 _ c.loop-run.run.page.now.world c.next_change.new.self.world (ap (λ (page : PageView). page.world) c.in-Some.ensures.evaluated) c.in-Some.change.query c.in-Some.ensures.place.1
+    evaluated_there c.args.document.0 _ c.loop-document.run.page.now.world c.next_change.new.self.world (ap (λ (page : PageView). page.world) c.in-Some.ensures.evaluated) c.in-Some.change.query c.in-Some.ensures.place.1
 
-pub loop-run-smaller : goal.loop-run-smaller
-loop-run-smaller g c =
-    fewer_places c.loop-run.place c.in-Some.change.query c.in-Some.change.place (length c.loop-run.run.page.now.world.queries) _ c.in-Some.ensures.query c.in-Some.ensures.place.0
-    c.in-Some.ensures.place.1 c.loop-run.invariant.ready.limits.queries
+pub loop-document-smaller : goal.loop-document-smaller
+loop-document-smaller g c =
+    fewer_places c.loop-document.place c.in-Some.change.query c.in-Some.change.place (length c.loop-document.run.page.now.world.queries) _ c.in-Some.ensures.query c.in-Some.ensures.place.0
+    c.in-Some.ensures.place.1 c.loop-document.invariant.ready.limits.queries
 
-pub loop-run-preserved : goal.loop-run-preserved
-loop-run-preserved g c =
-    run_goes_on c.loop-run.invariant c.in_ok-report_change.ensures refl (λ (script : Script). turns_from script c.args.document.0 c.in-Some.change.place)
-    (next_told (handlers_in c.loop-run.run.script.now.items) c.args.document.0 c.loop-run.run.page.now.world c.loop-run-test.ensures c.loop-run.invariant.ready.limits.queries c.loop-run.place
+pub loop-document-preserved : goal.loop-document-preserved
+loop-document-preserved g c =
+    run_goes_on c.loop-document.invariant c.in_ok-report_change.ensures refl (λ (script : Script). turns_from script c.args.document.0 c.in-Some.change.place)
+    (next_told (handlers_in c.loop-document.run.script.now.items) c.args.document.0 c.loop-document.run.page.now.world c.loop-document-test.ensures c.loop-document.invariant.ready.limits.queries c.loop-document.place
     c.in-Some.change.query c.in-Some.change.place c.in-Some.change.matches c.next_change.new.self.world c.in-Some.ensures.query c.in-Some.ensures.matches c.in-Some.ensures.place.0
     (ap (λ (page : PageView). page.world) c.in-Some.ensures.evaluated))
 
 pub returns-in_err-report_change : goal.returns-in_err-report_change
 returns-in_err-report_change g c =
-    run_is_cut c.loop-run.invariant c.in_err-report_change.ensures refl (λ (script : Script). turns_from script c.args.document.0 c.in-Some.change.place)
-    (next_told (handlers_in c.loop-run.run.script.now.items) c.args.document.0 c.loop-run.run.page.now.world c.loop-run-test.ensures c.loop-run.invariant.ready.limits.queries c.loop-run.place
+    run_is_cut c.loop-document.invariant c.in_err-report_change.ensures refl (λ (script : Script). turns_from script c.args.document.0 c.in-Some.change.place)
+    (next_told (handlers_in c.loop-document.run.script.now.items) c.args.document.0 c.loop-document.run.page.now.world c.loop-document-test.ensures c.loop-document.invariant.ready.limits.queries c.loop-document.place
     c.in-Some.change.query c.in-Some.change.place c.in-Some.change.matches c.next_change.new.self.world c.in-Some.ensures.query c.in-Some.ensures.matches c.in-Some.ensures.place.0
     (ap (λ (page : PageView). page.world) c.in-Some.ensures.evaluated))
     c.from_residual.result c.from_residual.ensures
 
 pub returns : goal.returns
 returns g c =
-    run_is_done c.loop-run.invariant refl c.loop-run.invariant.ready
-    (turns_left (handlers_in c.loop-run.run.script.now.items) c.args.document.0 c.loop-run.place c.loop-run.run.page.now.world c.loop-run-test.ensures)
+    run_is_done c.loop-document.invariant refl c.loop-document.invariant.ready
+    (turns_left (handlers_in c.loop-document.run.script.now.items) c.args.document.0 c.loop-document.place c.loop-document.run.page.now.world c.loop-document-test.ensures)
