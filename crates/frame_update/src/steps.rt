@@ -6,21 +6,20 @@ ghost use Rattle.script_model.specs.Scripts.{handlers_in};
 ghost use Rattle.trace_runs.specs.Flows.{goes_on};
 ghost use Rattle.trace_runs.specs.Runs.{Runs};
 ghost use Rattle.frame_update.specs.Ready.{IsPrepared};
-ghost use Rattle.page_model.specs.Ticks.{event_target_of, media_steps, resize_steps, scroll_steps, scrolled_text};
+ghost use Rattle.page_model.specs.Ticks.{event_target_of, media_steps, resize_steps, scroll_steps};
 ghost use Rattle.page_model.specs.Callbacks.{fire, while_active};
 ghost use Rattle.page_model.specs.Ranges.{IsScrollIn, counts_of};
 ghost use Rattle.script_model.specs.TraceLines.{FiredScroll, FiredChange};
-ghost use Rattle.page_model.specs.Names.{query_list_text};
+ghost use Rattle.page_model.specs.Names.{query_list_text, container_text};
 ghost use Rattle.page_model.specs.World.{QueryTarget};
-ghost use Rattle.scrolling.specs.Seen.{seen_target};
+ghost use Rattle.container_model.specs.Seen.{seen_container};
 ghost use Rattle.text_io.specs.declared.kinds.EventKind.TheVariants as events;
 
 use crate::events::fire;
-use element_tree::DocumentId;
+use element_tree::{Container, DocumentId};
 use event_tables::EventTarget;
 use page_state::{Change, Label, Page};
 use script_syntax::Script;
-use scrolling::ScrollTarget;
 use std::alloc::Global;
 use std::sync::ledger::Ledger;
 use step_count::Steps;
@@ -67,22 +66,22 @@ fn scroll_step<K: Sink, L: Ledger>(
     page: &mut Page,
     script: &Script,
     document: DocumentId,
-    target: ScrollTarget,
+    target: Container,
     sink: &mut K,
     steps: &mut Steps<L>,
 ) -> Result<(), RunFault>
     requires ready { IsPrepared script.now.items page.old.world }
-    requires target { IsScrollIn (counts_of 0 page.old.world) (seen_target target) }
+    requires target { IsScrollIn (counts_of 0 page.old.world) (seen_container target) }
     ensures says { Runs goes_on (λ _. page.new.world) result (K.taken sink.old) (K.taken sink.new) (K.faults sink.old) (K.faults sink.new)
-        (while_active document.0 (λ now. fire (handlers_in script.now.items) (FiredScroll (scrolled_text (now.names) (seen_target target))) (event_target_of (seen_target target)) events.Scroll now) page.old.world) }
+        (while_active document.0 (λ now. fire (handlers_in script.now.items) (FiredScroll (container_text (now.names) (seen_container target))) (event_target_of (seen_container target)) events.Scroll now) page.old.world) }
     ensures ready { IfOk result (λ _. IsPrepared script.now.items page.new.world) }
 {
     if !page.is_active(document) {
         return Ok(());
     }
     let target = match target {
-        ScrollTarget::Node(node) => EventTarget::Node(node),
-        ScrollTarget::Document(scrolled) => EventTarget::Document(scrolled),
+        Container::Element(node) => EventTarget::Node(node),
+        Container::Document(scrolled) => EventTarget::Document(scrolled),
     };
     let line = EventLine::Scroll(page.label(Label::Target(target)));
     fire(

@@ -8,8 +8,8 @@ use Rattle.page_model.specs.Ranges.{Counts, IsThingIn}
 use Rattle.block_layout.specs.declared.ItemKind.{ItemKind}
 use Rattle.block_layout.specs.declared.ItemKind.TheVariants.{Block, Image, Frame}
 use Rattle.page_tree.specs.Items.{IsNatural}
-use Rattle.page_tree.specs.declared.page.Container.{Container}
-use Rattle.page_tree.specs.declared.page.Container.TheVariants.{Element as Inside, Document as Top}
+use Rattle.element_tree.specs.declared.container.Container.{Container}
+use Rattle.element_tree.specs.declared.container.Container.TheVariants.{Element as Inside, Document as Top}
 use Rattle.page_state.specs.declared.names.Thing.{Thing}
 use Rattle.page_state.specs.declared.names.Thing.TheVariants.{Document, Element, ResizeObserver, IntersectionObserver, QueryList}
 

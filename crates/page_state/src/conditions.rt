@@ -2,9 +2,9 @@
 
 ghost use Rattle.std.specs.Prelude.{◌≡◌, ℕ, length, Bool, nat_lt, unsigned_abs};
 ghost use Rattle.px_units.specs.declared.BoxKind.TheVariants.{Border};
+ghost use Rattle.page_model.specs.World.{InElement};
 ghost use Rattle.page_model.specs.Commands.{asked, holds, seen_now};
 ghost use Rattle.page_model.specs.PageBoxes.{size_of};
-ghost use Rattle.page_model.specs.Documents.{InElement};
 ghost use Rattle.page_laws.specs.Ready.{IsReadyFor};
 ghost use Rattle.page_boxes.specs.Around.{rests_on};
 ghost use Rattle.page_boxes.specs.Pages.{seen_size};
@@ -15,9 +15,8 @@ ghost use Rattle.page_state.specs.Boxes.{ComputesIn, answer_rests_on};
 ghost use Rattle.page_state.specs.Things.{present_with, IsSubject};
 
 use crate::page::Page;
-use element_tree::NodeId;
+use element_tree::{Container, NodeId};
 use page_boxes::size_of;
-use page_tree::Container;
 use px_units::{BoxKind, Px, Size};
 use script_syntax::{Condition, Test};
 use std::sync::ledger::Ledger;

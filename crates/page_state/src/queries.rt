@@ -2,8 +2,8 @@
 
 ghost use Rattle.std.specs.Prelude.{◌≡◌, ◌<◌, ℕ, true, length, map, option_map, IfSome};
 ghost use Rattle.script_model.specs.Syntax.{MakeQueryList};
+ghost use Rattle.page_model.specs.World.{InDocument};
 ghost use Rattle.page_model.specs.Commands.{does, matches_now};
-ghost use Rattle.page_model.specs.Documents.{InDocument};
 ghost use Rattle.page_model.specs.Lookups.{query_list_at};
 ghost use Rattle.page_model.specs.Operands.{Present};
 ghost use Rattle.page_laws.specs.Ready.{IsReadyFor};

@@ -2,7 +2,7 @@ use Rattle.std.proofs.Common.{ap, refl, ◌∙◌}
 use Rattle.std.proofs.lemmas.List.{get_or_default}
 use Rattle.script_model.specs.Scripts.{handlers_in}
 use Rattle.page_state.specs.Views.{PageView}
-use Rattle.scrolling.specs.Seen.{seen_target, seen_targets}
+use Rattle.container_model.specs.Seen.{seen_container, seen_containers}
 use Rattle.trace_runs.proofs.Following.{begin, rest_same, go_on, end_cut, done}
 use Rattle.trace_runs.proofs.Loops.{each_more, each_none}
 use Rattle.frame_update.proofs.Scrolling.{IsThere, one_of_all, scroll_one, scrolls_taken, still_there, taken_there}
@@ -14,10 +14,10 @@ pub loop-target-init : goal.loop-target-init
 loop-target-init g c = (
   rest_same
       (scrolls_taken (handlers_in c.args.script.now.items) c.args.document.0 c.deref-target-items.result.now c.args.page.now.world c.take_scrolled-scrolled.new.self.world
-      (ap seen_targets c.deref-target-items.ensures.value ∙ c.take_scrolled-scrolled.ensures.value) (ap (λ (page : PageView). page.world) c.take_scrolled-scrolled.ensures.taken))
+      (ap seen_containers c.deref-target-items.ensures.value ∙ c.take_scrolled-scrolled.ensures.value) (ap (λ (page : PageView). page.world) c.take_scrolled-scrolled.ensures.taken))
       begin,
   taken_there c.args.script.now.items c.args.document.0 c.deref-target-items.result.now c.args.page.now.world c.take_scrolled-scrolled.new.self.world c.requires.ready
-      (ap seen_targets c.deref-target-items.ensures.value ∙ c.take_scrolled-scrolled.ensures.value) (ap (λ (page : PageView). page.world) c.take_scrolled-scrolled.ensures.taken),
+      (ap seen_containers c.deref-target-items.ensures.value ∙ c.take_scrolled-scrolled.ensures.value) (ap (λ (page : PageView). page.world) c.take_scrolled-scrolled.ensures.taken),
   still_prepared c.args.script.now.items c.args.page.now.world c.take_scrolled-scrolled.new.self.world c.take_scrolled-scrolled.ensures.ready c.requires.ready,
 )
 
@@ -34,7 +34,7 @@ returns-in_err-scroll_step-clause-says g c =
     stopped_run c.from_residual.result c.in_err-scroll_step.field-0.0 c.from_residual.ensures
     (end_cut c.in_err-scroll_step.field-0.0 _
     (rest_same
-    (each_more (λ item. scroll_one (handlers_in c.args.script.now.items) c.args.document.0 (seen_target item)) c.deref-target-items.result.now c.loop-target.target-index _
+    (each_more (λ item. scroll_one (handlers_in c.args.script.now.items) c.args.document.0 (seen_container item)) c.deref-target-items.result.now c.loop-target.target-index _
     c.loop-target.page.world c.loop-target-test.true (get_or_default c.deref-target-items.result.now c.loop-target.target-index _ _ c.loop-target-test.true))
     c.loop-target.invariant.0)
     c.in_err-scroll_step.ensures.says)
@@ -43,7 +43,7 @@ pub loop-target-preserved : goal.loop-target-preserved
 loop-target-preserved g c = (
   go_on _ refl
       (rest_same
-      (each_more (λ item. scroll_one (handlers_in c.args.script.now.items) c.args.document.0 (seen_target item)) c.deref-target-items.result.now c.loop-target.target-index _
+      (each_more (λ item. scroll_one (handlers_in c.args.script.now.items) c.args.document.0 (seen_container item)) c.deref-target-items.result.now c.loop-target.target-index _
       c.loop-target.page.world c.loop-target-test.true (get_or_default c.deref-target-items.result.now c.loop-target.target-index _ _ c.loop-target-test.true))
       c.loop-target.invariant.0)
       c.in_ok-scroll_step.ensures.says,
@@ -56,7 +56,7 @@ pub returns-clause-says : goal.returns-clause-says
 returns-clause-says g c =
     done refl
     (rest_same
-    (each_none (λ item. scroll_one (handlers_in c.args.script.now.items) c.args.document.0 (seen_target item)) c.deref-target-items.result.now c.loop-target.target-index c.loop-target.page.world
+    (each_none (λ item. scroll_one (handlers_in c.args.script.now.items) c.args.document.0 (seen_container item)) c.deref-target-items.result.now c.loop-target.target-index c.loop-target.page.world
     c.loop-target-test.false)
     c.loop-target.invariant.0)
 

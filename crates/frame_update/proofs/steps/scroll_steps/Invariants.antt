@@ -3,7 +3,7 @@ use Rattle.std.specs.List.{AllByRecursion}
 use Rattle.script_model.specs.Scripts.{handlers_in}
 use Rattle.page_model.specs.Runs.{for_each}
 use Rattle.page_model.specs.Ticks.{scroll_steps}
-use Rattle.scrolling.specs.Seen.{seen_target}
+use Rattle.container_model.specs.Seen.{seen_container}
 use Rattle.trace_runs.proofs.Following.{Following}
 use Rattle.frame_update.specs.Ready.{IsPrepared}
 use Rattle.frame_update.proofs.Scrolling.{IsThere, scroll_one}
@@ -14,6 +14,6 @@ abbrev pub invariant-loop-target : goal.invariant-loop-target
 invariant-loop-target g l =
     Following (g.K.Sink.taken l.fn.sink) (g.K.Sink.taken l.sink) (g.K.Sink.faults l.fn.sink) (g.K.Sink.faults l.sink)
     (scroll_steps (handlers_in l.script.items) l.document.0 l.fn.page.world)
-    (for_each (λ item. scroll_one (handlers_in l.script.items) l.document.0 (seen_target item)) (drop l.target-index l.target-items) l.page.world)
+    (for_each (λ item. scroll_one (handlers_in l.script.items) l.document.0 (seen_container item)) (drop l.target-index l.target-items) l.page.world)
     × AllByRecursion (IsThere l.page.world) l.target-items
     × IsPrepared l.script.items l.page.world

@@ -2,7 +2,7 @@
 use Rattle.page_model.specs.Operands.{operand_thing, as_container}
 use Rattle.page_state.specs.Things.{present_of}
 use Rattle.page_state.proofs.Finding.{finds_then, finds_none}
-use Rattle.page_tree.specs.Steps.{seen_container}
+use Rattle.container_model.specs.Seen.{seen_container}
 use Rattle.script_syntax.specs.Seen.{operand_of}
 use Rattle.page_state.proofs.names.Names.container.Goals as goal
 
