@@ -65,7 +65,12 @@ pub fn visible_rect<G: Geometry>(
 }
 
 // What the clips of the spots strictly between the target and the root leave of a rectangle.
-fn clipped_below<G: Geometry>(geometry: &G, target: Container, root: Container, first: Rect) -> Option<Rect>
+fn clipped_below<G: Geometry>(
+    geometry: &G,
+    target: Container,
+    root: Container,
+    first: Rect,
+) -> Option<Rect>
     requires above { IsAbove (G.scene geometry.now) root target }
     requires points { has_points first ≡ true }
     ensures { (between : List ContainerOf) → Leads (G.scene geometry.now) target between root →
@@ -84,7 +89,11 @@ fn clipped_below<G: Geometry>(geometry: &G, target: Container, root: Container, 
 
 /// The container of a spot, None where that is the root or there is none. So a chain is walked outwards from a spot up to its root. No
 /// memory.
-pub fn container_below<G: Geometry>(geometry: &G, of: Container, root: Container) -> Option<Container>
+pub fn container_below<G: Geometry>(
+    geometry: &G,
+    of: Container,
+    root: Container,
+) -> Option<Container>
     ensures next { IfSome result (λ next. ((G.scene geometry.now).container of ≡ Some next) × (¬ next ≡ root)) }
     ensures none { result ≡ None → ((G.scene geometry.now).container of ≡ None) ⊎ ((G.scene geometry.now).container of ≡ Some root) }
     ensures end { IfSome result (λ next. G.rank geometry.now next < G.rank geometry.now of) }

@@ -6,8 +6,8 @@ ghost use Rattle.clip_chain.specs.Ranges.{IsClip, IsBounds};
 use element_tree::Container;
 use px_units::Rect;
 
-/// Containers, clips and boxes as they are now. Rectangles are in units of 1/64 CSS pixel and in the coordinates of the top
-/// document's viewport.
+/// Containers, clips and boxes as they are now, of each spot: a container as a link in a chain, an element or the viewport of a document.
+/// Rectangles are in units of 1/64 CSS pixel and in the coordinates of the top document's viewport.
 pub trait Geometry {
     ghost use Rattle.std.specs.Prelude.{ℕ};
     ghost use Rattle.element_tree.specs.declared.container.Container.{Container as ContainerOf};

@@ -59,7 +59,13 @@ impl KeptFindings {
     }
 
     // Looks at each spot of a chain, from a spot outwards to a root, these two included.
-    fn look_along<S: Scene + Scrolls>(&mut self, scene: &S, looks: &mut Looks, root: Container, of: Container)
+    fn look_along<S: Scene + Scrolls>(
+        &mut self,
+        scene: &S,
+        looks: &mut Looks,
+        root: Container,
+        of: Container,
+    )
         requires above { IsAbove (S.scene scene.now) root of }
         requires room { EachAlong (MayBeSeen self.old.seen self.old.clips) (S.scene scene.now) of root }
         requires known { AreLooked (S.scene scene.now) (S.rank scene.now) self.old.seen looks.old }

@@ -117,7 +117,12 @@ fn seen(target: Container, root: Container, limits: Rect) -> Option<Option<Rect>
 }
 
 // The same as an observer with scroll margins sees it.
-fn seen_through(target: Container, root: Container, margins: Margins, limits: Rect) -> Option<Option<Rect>> {
+fn seen_through(
+    target: Container,
+    root: Container,
+    margins: Margins,
+    limits: Rect,
+) -> Option<Option<Rect>> {
     let view = Through {
         geometry: &Sample,
         root,

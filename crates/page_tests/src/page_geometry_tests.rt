@@ -554,7 +554,11 @@ fn find_over(
         registration,
         scroll,
     )?;
-    let is_chained = reaches(shown, Container::Element(NodeId(target)), Container::Document(DocumentId(0)));
+    let is_chained = reaches(
+        shown,
+        Container::Element(NodeId(target)),
+        Container::Document(DocumentId(0)),
+    );
     assert!(rt; is_chained || !finding.meets);
     Ok(finding)
 }

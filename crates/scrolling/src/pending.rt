@@ -63,10 +63,7 @@ pub(crate) fn add_pending(
 }
 
 // Hands out the list of a document, and leaves it empty.
-pub(crate) fn take_list(
-    lists: &mut Vec<Vec<Container>>,
-    document: DocumentId,
-) -> Vec<Container>
+pub(crate) fn take_list(lists: &mut Vec<Vec<Container>>, document: DocumentId) -> Vec<Container>
     ensures value { seen_containers result.items ≡ entry_or [] (seen_lists lists.old.items) document.0 }
     ensures taken { seen_lists lists.new.items ≡ change_at (λ list. []) document.0 (seen_lists lists.old.items) }
 {

@@ -12,9 +12,9 @@ ghost use Rattle.scrolling.specs.Held.{unscrolled, is_pending, HasNoDoubles};
 ghost use Rattle.container_model.specs.Seen.{seen_container, seen_containers};
 ghost use Rattle.scrolling.specs.Seen.{seen_size, point_of, kept_in, outcome_of};
 
+use crate::Outcome;
 use crate::pending::{add_pending, take_list};
 use crate::positions::{Position, position_at, reserve_place, store};
-use crate::Outcome;
 use element_tree::{Container, DocumentId};
 use px_units::{Point, Size};
 use std::alloc::{AllocError, Global};
@@ -104,9 +104,7 @@ impl Scrolls {
     {
         match target {
             Container::Element(node) => position_at(self.elements.as_slice(), node.0),
-            Container::Document(document) => {
-                position_at(self.documents.as_slice(), document.0)
-            }
+            Container::Document(document) => position_at(self.documents.as_slice(), document.0),
         }
     }
 
