@@ -25,8 +25,8 @@ use Rattle.kept_findings.specs.Held.{HeldFindings, IsRoomier}
 use Rattle.kept_findings.specs.Rooms.{HaveRoom}
 use Rattle.kept_findings.proofs.Rooms.{room_roomier, room_element, room_document}
 use Rattle.kept_findings.proofs.Settled.{registered_made, registered_roomier}
-use Rattle.page_state.specs.Known.{KnownNames}
-use Rattle.page_state.specs.Things.{IsContainerBelow}
+use Rattle.page_names.specs.Known.{KnownNames}
+use Rattle.page_names.specs.Things.{IsContainerBelow}
 use Rattle.page_state.specs.Labels.{IsIn}
 use Rattle.page_state.specs.Whole.{AreKnown, AreElementNames, AreAsked, IsPage}
 use Rattle.page_state.specs.Worlds.{world_of, counts_in}

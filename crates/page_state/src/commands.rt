@@ -24,14 +24,15 @@ ghost use Rattle.page_state.specs.Answers.{Keeps};
 ghost use Rattle.page_state.specs.Boxes.{LeavesDue, Marks, StaysDue, found, inside, is_moved, meant, parent};
 ghost use Rattle.page_state.specs.Faults.{misplaced};
 ghost use Rattle.page_state.specs.Labels.{IsIn};
-ghost use Rattle.page_state.specs.Things.{present_of, IsMade, IsSubject};
+ghost use Rattle.page_names.specs.Things.{present_of, IsSubject};
+ghost use Rattle.page_state.specs.Things.{IsMade};
 
 use crate::answers::{Effect, PageFault};
-use crate::names::Thing;
 use crate::page::Page;
 use block_layout::ItemKind;
 use element_tree::{Container, DocumentId, NodeId};
 use page_laws::{boxes_do_not_read_the_ratio, what_is_made_has_no_box};
+use page_names::Thing;
 use page_tree::PlaceFault;
 use px_units::{Percent, Px, Size};
 use script_syntax::Operand;

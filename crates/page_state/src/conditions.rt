@@ -10,9 +10,10 @@ ghost use Rattle.page_boxes.specs.Around.{rests_on};
 ghost use Rattle.page_boxes.specs.Pages.{seen_size};
 ghost use Rattle.script_syntax.specs.Allowed.{TestAllowed};
 ghost use Rattle.script_syntax.specs.Seen.{test_of, condition_of};
-ghost use Rattle.page_state.specs.Answers.{Finds};
+ghost use Rattle.page_names.specs.Answers.{Finds};
 ghost use Rattle.page_state.specs.Boxes.{ComputesIn, answer_rests_on};
-ghost use Rattle.page_state.specs.Things.{present_with, IsSubject};
+ghost use Rattle.page_names.specs.Things.{IsSubject};
+ghost use Rattle.page_state.specs.Things.{present_with};
 
 use crate::page::Page;
 use element_tree::{Container, NodeId};

@@ -12,12 +12,12 @@ ghost use Rattle.kept_findings.specs.Held.{no_findings, IsRoomier};
 ghost use Rattle.kept_findings.specs.Registered.{AreRegistered};
 
 use crate::by_document::ByDocument;
-use crate::names::{Names, Thing};
 use crate::page::most;
 use element_tree::{Container, DocumentId};
 use event_tables::{FrameCallbacks, Listeners, Tasks, Timers};
 use intersection_observer::Watchers;
 use kept_findings::KeptFindings;
+use page_names::{Names, Thing};
 use px_units::Size;
 use resize_observer::Observers;
 use std::alloc::{AllocError, Global};

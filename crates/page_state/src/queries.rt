@@ -14,10 +14,10 @@ ghost use Rattle.page_state.specs.Boxes.{ComputesIn, viewport_rests_on};
 ghost use Rattle.page_state.specs.Queries.{seen_query_list, is_changed, changed_from, next_changed, once_evaluated};
 
 use crate::answers::{Effect, PageFault};
-use crate::names::Thing;
 use crate::page::{Page, most, viewport_now};
 use element_tree::DocumentId;
 use media_queries::Query;
+use page_names::Thing;
 use px_units::Size;
 use std::sync::ledger::Ledger;
 use step_count::Steps;

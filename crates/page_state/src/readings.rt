@@ -12,7 +12,7 @@ ghost use Rattle.page_state.specs.Answers.{Keeps};
 ghost use Rattle.page_state.specs.Boxes.{ComputesIn, document_meant};
 ghost use Rattle.container_model.specs.Seen.{seen_container};
 ghost use Rattle.page_model.specs.Names.{container_text};
-ghost use Rattle.page_state.specs.Things.{present_of, IsSubject};
+ghost use Rattle.page_names.specs.Things.{present_of, IsSubject};
 ghost use Rattle.page_state.specs.Labels.{IsIn};
 
 use crate::answers::{Effect, PageFault};

@@ -18,7 +18,7 @@ ghost use Rattle.script_syntax.specs.Seen.{operand_of};
 ghost use Rattle.page_state.specs.Answers.{Keeps};
 ghost use Rattle.page_state.specs.Boxes.{ComputesIn, document_meant};
 ghost use Rattle.page_state.specs.Labels.{IsIn};
-ghost use Rattle.page_state.specs.Things.{present_of, IsSubject};
+ghost use Rattle.page_names.specs.Things.{present_of, IsSubject};
 
 use crate::answers::{Effect, PageFault};
 use crate::page::{Page, shown_in};

@@ -6,8 +6,8 @@ use Rattle.page_model.specs.Steps.{Did}
 use Rattle.element_tree.specs.declared.container.Container.{Container as Place}
 use Rattle.container_model.specs.Seen.{seen_container}
 use Rattle.script_syntax.specs.Seen.{operand_of}
-use Rattle.page_state.specs.Things.{present_of}
-use Rattle.page_state.proofs.Steps.{then_did, then_threw}
+use Rattle.page_names.specs.Things.{present_of}
+use Rattle.page_names.proofs.Steps.{then_did, then_threw}
 use Rattle.page_state.proofs.page.Page.root.Goals as goal
 
 pub returns-in-Ok-Element : goal.returns-in-Ok-Element

@@ -8,7 +8,7 @@ use Rattle.page_model.specs.Steps.{becomes}
 use Rattle.container_model.specs.Seen.{seen_container}
 use Rattle.script_syntax.specs.Seen.{operand_of}
 use Rattle.page_state.specs.Answers.{Keeps}
-use Rattle.page_state.specs.Things.{present_of}
+use Rattle.page_names.specs.Things.{present_of}
 use Rattle.page_state.specs.Views.{PageView}
 use Rattle.kept_layout.specs.declared.slots.Slot.{Slot}
 use Rattle.page_state.specs.Boxes.{ComputesIn, document_meant}
