@@ -1,7 +1,6 @@
 //! The names of things, and looking them up. A name that was given stands for its thing for good.
 
 ghost use Rattle.std.specs.Prelude.{List, ◌≡◌, ◌+◌, ◌<◌, ◌≤◌, ◌++◌, bytes_eq, false, ◌∷◌, [], find, option_map, None, IfOk, OnOk, OnErr, IsOk};
-ghost use Rattle.std.specs.List.{AllByRecursion};
 ghost use Rattle.indexmap.specs.IndexMap.{spare};
 ghost use Rattle.element_tree.specs.Documents.{document_number};
 ghost use Rattle.element_tree.specs.Links.{number};
