@@ -19,8 +19,11 @@ const ROOT: NodeId = NodeId(0);
 
 const ELEMENTS: u32 = 500;
 
-/// Edits whose places are summed up together. The viewport is narrow for the last tenth of them.
-const ROUND: u32 = 100;
+/// How often places are looked at in a round, to be summed up together. The viewport is narrow the last time.
+const STEPS: u32 = 10;
+
+/// Edits from one look to the next, each with a layout after it.
+const EDITS: u32 = 10;
 
 const NARROW: Inputs = Inputs {
     width: 20480,
@@ -31,29 +34,29 @@ const NARROW: Inputs = Inputs {
 /// Where the random numbers begin: `ROUNDS` is of the edits that follow from it.
 const SEED: u64 = 20;
 
-/// Of each round how many boxes are seen, which is after each edit, and the sums of their left and top edges, as `layout.py` of
-/// `tools/reference` gives them through the same edits.
+/// Of each round how many boxes are seen, and the sums of their left and top edges, as `layout.py` of `tools/reference` gives them
+/// through the same edits.
 const ROUNDS: [(u64, i64, i64); 20] = [
-    (39177, -12311816, 2011232424),
-    (33146, -6388680, 1595377880),
-    (31946, -3640904, 1432535856),
-    (30859, 2086181, 1329203347),
-    (24055, 3411955, 800259364),
-    (18056, 2870888, 420215810),
-    (16231, 2838486, 326452536),
-    (16022, 3373218, 389480446),
-    (15489, 4411476, 242179723),
-    (12803, 3771505, 168710724),
-    (12687, 4242877, 166842594),
-    (8362, 5824736, 86447922),
-    (5785, 3800737, 59206653),
-    (5055, 5369504, 46665812),
-    (4734, 3299438, 38616670),
-    (3887, 2382556, 40129280),
-    (4067, 2368394, 46620704),
-    (4354, 2779808, 59870766),
-    (4385, 2178248, 71634136),
-    (4100, 2335180, 70715300),
+    (3911, -1223924, 200754116),
+    (3297, -606580, 158870796),
+    (3188, -361908, 141766812),
+    (3086, 246414, 133242422),
+    (2348, 338543, 75810699),
+    (1800, 279129, 41960901),
+    (1621, 289772, 33254550),
+    (1600, 344266, 38306089),
+    (1541, 443219, 24199210),
+    (1280, 375392, 16554021),
+    (1268, 423224, 16733886),
+    (796, 558547, 7958611),
+    (572, 376859, 5904754),
+    (502, 549378, 4493978),
+    (471, 323806, 3869688),
+    (388, 237182, 4014140),
+    (410, 238585, 4721600),
+    (435, 276074, 5976592),
+    (437, 217814, 7179364),
+    (410, 233518, 7072106),
 ];
 
 /// How many declarations there are to choose from.
@@ -326,13 +329,29 @@ fn plant(rt: &impl Abort, random: &mut Random, tree: &mut Tree<Element>) {
     }
 }
 
-fn viewport(edit: u32) -> Inputs
-    ensures { result.flow ≡ true }
+// Edits the tree, each time with a layout after it.
+fn edit_often(
+    rt: &impl Abort,
+    random: &mut Random,
+    tree: &mut Tree<Element>,
+    kept: &mut Kept,
+    inputs: Inputs,
+)
+    requires { inputs.flow ≡ true }
 {
-    if edit < 90 { SCREEN } else { NARROW }
+    for _ in 0..EDITS {
+        edit(rt, random, tree, kept);
+        lay_out(rt, kept, tree, inputs);
+    }
 }
 
-// Edits the tree, each time with a layout after it, and sums up the places of all boxes then.
+fn viewport(step: u32) -> Inputs
+    ensures { result.flow ≡ true }
+{
+    if step < STEPS - 1 { SCREEN } else { NARROW }
+}
+
+// The sums of a round: the places of all boxes after each step.
 fn sum_round(
     rt: &impl Abort,
     random: &mut Random,
@@ -340,9 +359,8 @@ fn sum_round(
     kept: &mut Kept,
 ) -> Sums {
     let mut seen = Sums::ZERO;
-    for number in 0..ROUND {
-        edit(rt, random, tree, kept);
-        lay_out(rt, kept, tree, viewport(number));
+    for step in 0..STEPS {
+        edit_often(rt, random, tree, kept, viewport(step));
         seen = add_places(rt, tree, kept, seen);
     }
     seen

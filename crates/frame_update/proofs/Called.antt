@@ -1,8 +1,6 @@
 -- A line and then a callback.
 use Rattle.std.proofs.Common.{◌≡◌, ◌∙◌, ℕ, true, false, List, [], ◌∷◌, Option, refl, ap, sym}
-use Rattle.std.specs.Prelude.{cond, Result, Ok, Err, IfOk}
-use Rattle.script_model.specs.Scripts.{handlers_in}
-use Rattle.script_model.specs.Syntax.{Item}
+use Rattle.std.specs.Prelude.{cond, Result, Ok, Err}
 use Rattle.script_model.specs.TraceLines.{TraceLine}
 use Rattle.page_model.specs.Callbacks.{Script, NoEntries, call, entry_lines, run_handler}
 use Rattle.page_model.specs.Documents.{is_active}
@@ -15,8 +13,6 @@ use Rattle.trace_runs.specs.Runs.{Runs}
 use Rattle.trace_runs.specs.Writes.{Told}
 use Rattle.trace_runs.proofs.Following.{cut_run, followed_next, then_run}
 use Rattle.trace_runs.proofs.Runs.{run_same, say_run}
-use Rattle.frame_update.specs.Ready.{IsPrepared}
-use Rattle.frame_update.proofs.Ready.{ready_called}
 
 module _ (script : Script) (document : ℕ) (handler : Option ℕ) where
   -- a line, and the callback of a document
@@ -52,9 +48,3 @@ module _ (script : Script) (document : ℕ) (handler : Option ℕ) where
     pub untold_run : {A : Type 0} {state : A → World} (fault : RunFault) → Told {A = Unit {0}} (Err fault) before after f g (line ∷ [])
         → Runs goes_on state (Err fault) before after f g (told_call other world)
     untold_run fault wrote = run_same (ap (λ it. told_call it world) named) (cut_run fault (call script document handler NoEntries) (say_run {A = Unit {0}} (Err fault) wrote))
-
--- a page stays ready behind a callback
-pub called_ready : {A : Type 0} {before after : Option (List ℕ)} {f g : ℕ} (script : List Item) (document : ℕ) (handler : Option ℕ) (old new : World) (result : Result A RunFault)
-    → Runs goes_on (λ (_ : A). new) result before after f g (call (handlers_in script) document handler NoEntries old) → IsPrepared script old → IfOk result (λ _. IsPrepared script new)
-called_ready script document handler old new (Ok value) run ready = ready_called script document handler NoEntries old new tt run.ended.state_is ready
-called_ready script document handler old new (Err fault) run ready = tt

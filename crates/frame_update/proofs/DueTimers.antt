@@ -1,6 +1,6 @@
 -- The timers that are due, handed out one after another.
-use Rattle.std.proofs.Common.{◌≡◌, ◌∙◌, ℕ, Bool, List, Option, refl, ap, sym}
-use Rattle.std.specs.Prelude.{Some, None, Ok, Err, find, map, option_map}
+use Rattle.std.proofs.Common.{◌≡◌, ◌∙◌, ℕ, Bool, List, Option, ap, sym}
+use Rattle.std.specs.Prelude.{Some, None, find, map, option_map}
 use Rattle.script_model.specs.TraceLines.{TimerLine}
 use Rattle.page_model.specs.Callbacks.{Script}
 use Rattle.page_model.specs.Names.{document_text}
@@ -11,10 +11,6 @@ use Rattle.page_model.specs.World.{FrameCallback, World}
 use Rattle.event_tables.specs.Handed.{behind_first, one_by_one, run_and_then}
 use Rattle.event_tables.specs.Timers.{callback_of, copied_stands, once_handed, timer_of, told}
 use Rattle.event_tables.proofs.Handing.{first_runs, timers_run}
-use Rattle.trace_runs.specs.declared.faults.RunFault.{RunFault}
-use Rattle.trace_runs.specs.Flows.{goes_on}
-use Rattle.trace_runs.specs.Runs.{Runs}
-use Rattle.trace_runs.proofs.Following.{Following, end_cut, go_on, rest_same}
 use Rattle.frame_update.proofs.Called.{told_while_active}
 use Rattle.frame_update.proofs.Handed.{none_found}
 
@@ -58,12 +54,14 @@ module _ (script : Script) (copied : List FrameCallback) (before : World) where
       ap (λ (called : ℕ × List ℕ × ℕ). called_timer script called.0 called.1 called.2 (timer_handed (Some it)) followed_by timers_left script others_left) same
 
   -- one is handed out
-  pub timers_more : (document : ℕ) (key : List ℕ) (handler : ℕ) (after : World) → Some (document, key, handler) ≡ option_map told next_timer → after ≡ timer_handed next_timer
-      → timers_left script copied before ≡ (called_timer script document key handler after followed_by timers_left script others_left)
-  timers_more document key handler after is changed =
+  pub timers_more : (document : ℕ) (key : List ℕ) (handler : ℕ) (after : World) (rest : List FrameCallback) → Some (document, key, handler) ≡ option_map told next_timer
+      → after ≡ timer_handed next_timer → rest ≡ others_left
+      → timers_left script copied before ≡ (called_timer script document key handler after followed_by timers_left script rest)
+  timers_more document key handler after rest is changed same =
       first_runs stands_now (run_copied script) copied before
       ∙ found-timer next_timer document key handler is
       ∙ ap (λ (world : World). called_timer script document key handler world followed_by timers_left script others_left) (sym changed)
+      ∙ ap (λ (others : List FrameCallback). called_timer script document key handler after followed_by timers_left script others) (sym same)
 
   none-handed : (found : Option FrameCallback) (after : World) → found ≡ None → after ≡ timer_handed found
       → run_and_then stands_now (run_copied script) found others_left before ≡ silent after
@@ -73,18 +71,3 @@ module _ (script : Script) (copied : List FrameCallback) (before : World) where
   -- none is left
   pub timers_none : (after : World) → None ≡ option_map told next_timer → after ≡ timer_handed next_timer → timers_left script copied before ≡ silent after
   timers_none after is changed = first_runs stands_now (run_copied script) copied before ∙ none-handed next_timer after (none_found told next_timer is) changed
-
-  module _ {whole : Said World} {start mid : Option (List ℕ)} {f fm : ℕ} (following : Following start mid f fm whole (timers_left script copied before)) where
-    module _ {A : Type 0} {now : Option (List ℕ)} {g : ℕ} (document : ℕ) (key : List ℕ) (handler : ℕ) (after new : World) (is : Some (document, key, handler) ≡ option_map told next_timer)
-        (changed : after ≡ timer_handed next_timer) where
-      -- one was run
-      pub timers_go_on : (value : A) (rest : List FrameCallback) → rest ≡ others_left → Runs goes_on (λ (_ : A). new) (Ok value) mid now fm g (called_timer script document key handler after)
-          → Following start now f g whole (timers_left script rest new)
-      timers_go_on value rest same run =
-          rest_same (ap (λ (others : List FrameCallback). timers_left script others new) (sym same))
-          (go_on (timers_left script others_left) refl (rest_same (timers_more document key handler after is changed) following) run)
-
-      -- one was cut off
-      pub timers_cut : {B : Type 0} {state : B → World} (fault : RunFault) → Runs goes_on (λ (_ : A). new) (Err fault) mid now fm g (called_timer script document key handler after)
-          → Runs goes_on state (Err fault) start now f g whole
-      timers_cut fault run = end_cut fault (timers_left script others_left) (rest_same (timers_more document key handler after is changed) following) run

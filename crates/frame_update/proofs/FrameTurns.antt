@@ -1,6 +1,6 @@
 -- The frame callbacks of a document, handed out one after another.
 use Rattle.std.proofs.Common.{◌≡◌, ◌∙◌, ℕ, Bool, true, false, List, Option, refl, ap, sym, subst, eqb-true}
-use Rattle.std.specs.Prelude.{Some, None, Ok, Err, find, option_map, ◌&&◌, ◌==◌, IfSome}
+use Rattle.std.specs.Prelude.{Some, None, find, option_map, ◌&&◌, ◌==◌, IfSome}
 use Rattle.std.specs.List.{AllByRecursion}
 use Rattle.script_model.specs.TraceLines.{FrameLine}
 use Rattle.page_model.specs.Callbacks.{Script}
@@ -13,10 +13,6 @@ use Rattle.page_model.specs.World.{FrameCallback, World}
 use Rattle.event_tables.specs.Handed.{behind_first, one_by_one, run_and_then}
 use Rattle.event_tables.specs.FrameCallbacks.{once_handed, told}
 use Rattle.event_tables.proofs.Handing.{first_runs}
-use Rattle.trace_runs.specs.declared.faults.RunFault.{RunFault}
-use Rattle.trace_runs.specs.Flows.{goes_on}
-use Rattle.trace_runs.specs.Runs.{Runs}
-use Rattle.trace_runs.proofs.Following.{Following, end_cut, go_on, rest_same}
 use Rattle.frame_update.proofs.Called.{told_call}
 use Rattle.frame_update.proofs.Handed.{found_of_all, left_of_all, none_found, none_passes, passed_of_all}
 
@@ -83,13 +79,14 @@ module _ (script : Script) (document : ℕ) (copied : List FrameCallback) (befor
       ∙ ap (λ (called : List ℕ × ℕ). called_frame script document called.0 called.1 (frame_handed (Some it)) followed_by frames_left script document others_left) same
 
   -- one is handed out
-  pub frames_more : (key : List ℕ) (handler : ℕ) (after : World) → is_active (before.tree) document ≡ true → AreOf document copied → Some (key, handler) ≡ option_map told next_frame
-      → after ≡ frame_handed next_frame
-      → frames_left script document copied before ≡ (called_frame script document key handler after followed_by frames_left script document others_left)
-  frames_more key handler after active own is changed =
+  pub frames_more : (key : List ℕ) (handler : ℕ) (after : World) (rest : List FrameCallback) → is_active (before.tree) document ≡ true → AreOf document copied
+      → Some (key, handler) ≡ option_map told next_frame → after ≡ frame_handed next_frame → rest ≡ others_left
+      → frames_left script document copied before ≡ (called_frame script document key handler after followed_by frames_left script document rest)
+  frames_more key handler after rest active own is changed same =
       turn true active
       ∙ found-frame next_frame key handler (found_of_all (λ (it : FrameCallback). it.document ≡ document) (stands_now before) copied own) is
       ∙ ap (λ (world : World). called_frame script document key handler world followed_by frames_left script document others_left) (sym changed)
+      ∙ ap (λ (others : List FrameCallback). called_frame script document key handler after followed_by frames_left script document others) (sym same)
 
   none-handed : (found : Option FrameCallback) (after : World) → found ≡ None → after ≡ frame_handed found
       → run_and_then (is_called document) (run_frame_callback script) found others_left before ≡ silent after
@@ -107,18 +104,3 @@ module _ (script : Script) (document : ℕ) (copied : List FrameCallback) (befor
 
   pub others_of : (rest : List FrameCallback) → rest ≡ others_left → AreOf document copied → AreOf document rest
   others_of rest same own = subst (AreOf document) (sym same) (left_of_all (λ (it : FrameCallback). it.document ≡ document) (stands_now before) copied own)
-
-  module _ {whole : Said World} {start mid : Option (List ℕ)} {f fm : ℕ} (following : Following start mid f fm whole (frames_left script document copied before)) where
-    module _ {A : Type 0} {now : Option (List ℕ)} {g : ℕ} (key : List ℕ) (handler : ℕ) (after new : World) (active : is_active (before.tree) document ≡ true) (own : AreOf document copied)
-        (is : Some (key, handler) ≡ option_map told next_frame) (changed : after ≡ frame_handed next_frame) where
-      -- one was run
-      pub frames_go_on : (value : A) (rest : List FrameCallback) → rest ≡ others_left → Runs goes_on (λ (_ : A). new) (Ok value) mid now fm g (called_frame script document key handler after)
-          → Following start now f g whole (frames_left script document rest new)
-      frames_go_on value rest same run =
-          rest_same (ap (λ (others : List FrameCallback). frames_left script document others new) (sym same))
-          (go_on (frames_left script document others_left) refl (rest_same (frames_more key handler after active own is changed) following) run)
-
-      -- one was cut off
-      pub frames_cut : {B : Type 0} {state : B → World} (fault : RunFault) → Runs goes_on (λ (_ : A). new) (Err fault) mid now fm g (called_frame script document key handler after)
-          → Runs goes_on state (Err fault) start now f g whole
-      frames_cut fault run = end_cut fault (frames_left script document others_left) (rest_same (frames_more key handler after active own is changed) following) run

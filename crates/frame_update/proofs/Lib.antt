@@ -1,5 +1,5 @@
 pub mod Ready
-pub mod Stopped
+pub mod Going
 pub mod Called
 pub mod Handed
 pub mod DueTimers

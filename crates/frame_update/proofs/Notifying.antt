@@ -1,11 +1,8 @@
 -- The notify task of a document: its observers in order of making, each with the queue that it has at its turn.
 use Rattle.std.proofs.Common.{◌≡◌, refl, ap, sym, subst, ◌∙◌, ◌≤◌, arith}
-use Rattle.std.specs.Prelude.{ℕ, zero, suc, ◌<◌, ◌==◌, true, false, List, [], ◌∷◌, length, map, All, Option, Result, Ok, Err, IfOk}
-use Rattle.std.specs.List.{AllByRecursion}
+use Rattle.std.specs.Prelude.{ℕ, zero, suc, ◌<◌, ◌==◌, true, false, List, [], ◌∷◌, length, map, All, Option, Result}
 use Rattle.std.proofs.lemmas.Bool.Decides.{nat_tests}
 use Rattle.std.proofs.lemmas.List.Elements.{All-weaker}
-use Rattle.script_model.specs.Scripts.{handlers_in}
-use Rattle.script_model.specs.Syntax.{Item}
 use Rattle.trace_text.specs.Ranges.{HasReach}
 use Rattle.page_model.specs.World.{Entry, IntersectionObserver, World}
 use Rattle.page_model.specs.Lookups.{change_at, entry_or, no_intersection_observer, intersection_observer_at}
@@ -13,7 +10,7 @@ use Rattle.page_model.specs.Documents.{is_active}
 use Rattle.page_model.specs.IntersectionObserving.{without_queue}
 use Rattle.page_model.specs.Intersections.{notify, notify_watcher, notify_watchers, take_queue, watchers}
 use Rattle.page_model.specs.Operands.{IntersectionEntry}
-use Rattle.page_model.specs.Callbacks.{Script, Entries, CutEntries, call, presents}
+use Rattle.page_model.specs.Callbacks.{Script, CutEntries, call}
 use Rattle.page_model.specs.EntryLines.{intersection_line, intersection_lines}
 use Rattle.page_model.specs.Ranges.{IsPresentIn}
 use Rattle.page_model.specs.Runs.{for_each, only_if, silent}
@@ -27,8 +24,6 @@ use Rattle.trace_runs.specs.Flows.{goes_on}
 use Rattle.trace_runs.specs.Runs.{Runs}
 use Rattle.trace_runs.proofs.Loops.{each_mapped}
 use Rattle.trace_runs.proofs.Runs.{run_same}
-use Rattle.frame_update.specs.Ready.{IsPrepared}
-use Rattle.frame_update.proofs.Ready.{ready_called}
 use Rattle.frame_update.proofs.Watchers.{called_made, changed_made}
 
 -- what is handed to the callback ---------------------------------------------------------------------------------------------
@@ -140,13 +135,6 @@ module _ (script : Script) (observer : ℕ) where
   turn_made world after is =
       subst (λ (now : World). length world.intersection_observers.made ≤ length now.intersection_observers.made) is
       (queue-made (length world.intersection_observers.made) world _ (omega arith))
-
--- a page stays ready behind the callback
-pub turn_ready : {A : Type 0} {before after : Option (List ℕ)} {f g : ℕ} (script : List Item) (document : ℕ) (handler : Option ℕ) (handed : Entries) (old new : World) (result : Result A RunFault)
-    → AllByRecursion (IsPresentIn old) (presents handed) → Runs goes_on (λ (_ : A). new) result before after f g (call (handlers_in script) document handler handed old)
-    → IsPrepared script old → IfOk result (λ _. IsPrepared script new)
-turn_ready script document handler handed old new (Ok value) are run ready = ready_called script document handler handed old new are run.ended.state_is ready
-turn_ready script document handler handed old new (Err fault) are run ready = tt
 
 -- the task ---------------------------------------------------------------------------------------------------------------------
 

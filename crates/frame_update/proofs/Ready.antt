@@ -14,6 +14,9 @@ use Rattle.page_laws.proofs.Limits.{as-many}
 use Rattle.page_laws.proofs.RunsInRange.{call-in}
 use Rattle.page_laws.proofs.Turns.{call-within}
 use Rattle.page_laws.proofs.Ready.{ready-of, range-of, limits-of}
+use Rattle.trace_runs.specs.declared.faults.RunFault.{RunFault}
+use Rattle.trace_runs.specs.Flows.{goes_on}
+use Rattle.trace_runs.specs.Runs.{Runs}
 use Rattle.frame_update.specs.Ready.{IsPrepared, IsReady}
 
 -- with the parts in sight
@@ -52,3 +55,9 @@ ready_called script document handler handed before after are is ready =
       range = call-in (handlers_in script) before ready.range document handler handed are;
       limits = call-within (handlers_in script) before ready.limits document handler handed;
     })
+
+pub called_ready : {A : Type 0} {before after : Option (List ℕ)} {f g : ℕ} (script : List Item) (document : ℕ) (handler : Option ℕ) (handed : Entries) (old new : World) (result : Result A RunFault)
+    → AllByRecursion (IsPresentIn old) (presents handed) → Runs goes_on (λ (_ : A). new) result before after f g (call (handlers_in script) document handler handed old)
+    → IsPrepared script old → IfOk result (λ _. IsPrepared script new)
+called_ready script document handler handed old new (Ok value) are run ready = ready_called script document handler handed old new are run.ended.state_is ready
+called_ready script document handler handed old new (Err fault) are run ready = tt

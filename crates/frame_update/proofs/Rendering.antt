@@ -1,19 +1,13 @@
 -- The parts of an update, each over the documents.
-use Rattle.std.proofs.Common.{◌≡◌, ℕ, ◌+◌, ◌<◌, ◌≤◌, true, false, List, [], ◌∷◌, length, drop, get_or, Option, refl, ap, sym}
-use Rattle.std.proofs.lemmas.List.{get_or_default}
-use Rattle.std.specs.Prelude.{Ok, Err}
+use Rattle.std.proofs.Common.{◌≡◌, ℕ, true, false, List, [], ◌∷◌, ap, sym}
 use Rattle.element_tree.specs.declared.document.DocumentId.{DocumentId}
 use Rattle.element_tree.specs.Documents.{document_number, document_numbers}
 use Rattle.page_model.specs.Callbacks.{Script, while_active}
 use Rattle.page_model.specs.Documents.{active_documents, is_active}
-use Rattle.page_model.specs.Runs.{Said, ◌followed_by◌, for_each, only_if, silent}
+use Rattle.page_model.specs.Runs.{Said, for_each, only_if, silent}
 use Rattle.page_model.specs.Ticks.{update_rendering}
 use Rattle.page_model.specs.World.{World}
-use Rattle.trace_runs.specs.declared.faults.RunFault.{RunFault}
-use Rattle.trace_runs.specs.Flows.{goes_on}
-use Rattle.trace_runs.specs.Runs.{Runs}
-use Rattle.trace_runs.proofs.Following.{Following, done, end_cut, go_on, rest_same}
-use Rattle.trace_runs.proofs.Loops.{each_mapped, each_more, each_none}
+use Rattle.trace_runs.proofs.Loops.{each_mapped}
 use Rattle.frame_update.specs.Parts.{part_of}
 use Rattle.frame_update.specs.declared.update.Part.{Part}
 use Rattle.frame_update.specs.declared.update.Part.TheVariants.{Resizes, Scrolls, Media, Frames, ResizeLoop, Intersections}
@@ -44,24 +38,3 @@ module _ (document : ℕ) (run : World → Said World) (world : World) where
 
   pub while_active_rests : is_active (world.tree) document ≡ false → while_active document run world ≡ silent world
   while_active_rests is = ap (only_if run world) is
-
--- a step for each item, run one after another
-module _ {X : Type 0} (step : X → World → Said World) (items : List X) (i : ℕ) (before : World) {whole : Said World} {start mid : Option (List ℕ)} {f fm : ℕ}
-    (following : Following start mid f fm whole (for_each step (drop i items) before)) where
-  module _ (default : X) (within : i < length items) where
-    next-item : Following start mid f fm whole (step (get_or items i default) before followed_by for_each step (drop (i + 1) items))
-    next-item = rest_same (each_more step items i (get_or items i default) before within (get_or_default items i default _ within)) following
-
-    -- one was run
-    pub each_go_on : {now : Option (List ℕ)} {g : ℕ} {A : Type 0} {new : World} (value : A) → Runs goes_on (λ (_ : A). new) (Ok value) mid now fm g (step (get_or items i default) before)
-        → Following start now f g whole (for_each step (drop (i + 1) items) new)
-    each_go_on value run = go_on (for_each step (drop (i + 1) items)) refl next-item run
-
-    -- one was cut off
-    pub each_cut : {now : Option (List ℕ)} {g : ℕ} {A B : Type 0} {new : World} {state : B → World} (fault : RunFault)
-        → Runs goes_on (λ (_ : A). new) (Err fault) mid now fm g (step (get_or items i default) before) → Runs goes_on state (Err fault) start now f g whole
-    each_cut fault run = end_cut fault (for_each step (drop (i + 1) items)) next-item run
-
-  -- none is left
-  pub each_done : {A : Type 0} (value : A) → length items ≤ i → Runs goes_on (λ (_ : A). before) (Ok value) start mid f fm whole
-  each_done value past = done refl (rest_same (each_none step items i before past) following)

@@ -1,4 +1,5 @@
 pub mod Ready
+pub mod Goes
 pub mod Turns
 pub mod Parts
 pub mod Answers

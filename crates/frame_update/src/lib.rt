@@ -6,6 +6,7 @@ mod events;
 mod frames;
 mod notify;
 mod rounds;
+mod run;
 mod steps;
 mod tasks;
 mod ticks;

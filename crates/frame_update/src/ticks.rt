@@ -12,8 +12,10 @@ ghost use Rattle.loop_laws.specs.RunLoops.{item_loops, IsExact};
 ghost use Rattle.trace_runs.specs.Flows.{goes_on};
 ghost use Rattle.trace_runs.specs.Runs.{Runs};
 ghost use Rattle.frame_update.specs.Answers.{Refused};
+ghost use Rattle.frame_update.specs.Goes.{handlers_of, world_of, Goes, IsUnderWay};
 ghost use Rattle.frame_update.specs.Ready.{IsPrepared, IsReady};
 
+use crate::run::Run;
 use crate::tasks::run_tasks;
 use crate::timers::run_timers;
 use crate::update::update_rendering;
@@ -28,13 +30,25 @@ use trace_runs::{RunFault, write_one};
 use trace_text::TraceLine;
 
 // A tick whose time is set: the timers due, an update of the rendering, and the tasks.
-fn run_parts<K: Sink, L: Ledger>(
+fn run_parts<K: Sink, L: Ledger>(run: &mut Run<'_, K, L>, time: u64) -> Result<(), RunFault>
+    requires ready { IsUnderWay run.old }
+    requires time { (world_of run.old).clock ≡ time }
+    ensures { Goes K.taken K.faults run.old run.new result (tick (handlers_of run.old) (world_of run.old)) }
+{
+    write_one(run.alloc, &TraceLine::Tick(time), run.sink)?;
+    run_timers(run)?;
+    update_rendering(run)?;
+    run_tasks(run)
+}
+
+// The same in a run made of these, which are lent to it for one lifetime.
+fn run_timed<'a, K: Sink, L: Ledger>(
     alloc: Global,
-    page: &mut Page,
-    script: &Script,
+    page: &'a mut Page,
+    script: &'a Script,
     time: u64,
-    sink: &mut K,
-    steps: &mut Steps<L>,
+    sink: &'a mut K,
+    steps: &'a mut Steps<L>,
 ) -> Result<(), RunFault>
     requires ready { IsPrepared script.now.items page.old.world }
     requires time { page.old.world.clock ≡ time }
@@ -42,10 +56,14 @@ fn run_parts<K: Sink, L: Ledger>(
         (tick (handlers_in script.now.items) page.old.world) }
     ensures ready { IfOk result (λ _. IsPrepared script.now.items page.new.world) }
 {
-    write_one(alloc, &TraceLine::Tick(time), sink)?;
-    run_timers(alloc, page, script, sink, steps)?;
-    update_rendering(alloc, page, script, sink, steps)?;
-    run_tasks(alloc, page, script, sink, steps)
+    let mut run = Run {
+        alloc,
+        page,
+        script,
+        sink,
+        steps,
+    };
+    run_parts(&mut run, time)
 }
 
 // What is written of a call that was refused: an exception ends the tick, and a limit the run. The version is that of the page.
@@ -105,5 +123,5 @@ pub fn tick<K: Sink, L: Ledger>(
     if let Err(fault) = page.set_time(time) {
         return refuse(alloc, line, fault, page.version(), sink);
     }
-    run_parts(alloc, page, script, time, sink, steps)
+    run_timed(alloc, page, script, time, sink, steps)
 }

@@ -1,6 +1,6 @@
 //! A handler, called with the entries of its callback.
 
-ghost use Rattle.std.specs.Prelude.{◌≡◌, option_map, Some};
+ghost use Rattle.std.specs.Prelude.{option_map, Some};
 ghost use Rattle.script_model.specs.Scripts.{handlers_in};
 ghost use Rattle.page_model.specs.Callbacks.{call, presents, run_handler};
 ghost use Rattle.trace_runs.specs.Flows.{goes_on};

@@ -1,6 +1,6 @@
 //! The elements that a point hits.
 
-ghost use Rattle.std.specs.Prelude.{◌≡◌, ◌<◌, All, length, ◌++◌, filter, map, reverse, true, IfOk, OnOk};
+ghost use Rattle.std.specs.Prelude.{◌≡◌, ◌<◌, All, length, filter, map, reverse, true, IfOk};
 ghost use Rattle.element_tree.specs.Links.{number};
 ghost use Rattle.page_model.specs.Shown.{has_box};
 ghost use Rattle.hit_test.specs.Hits.{is_hit};

@@ -25,7 +25,7 @@ abbrev after : List ℕ → Answer
 after text = byte_at 44 text >>= λ rest. queries_at (skip rest)
 
 -- what may follow a query
-pub follows : List ℕ → Answer
+unfoldable pub follows : List ℕ → Answer
 follows text = cond (is_empty text) (Ok []) (after (skip text))
 
 abbrev pub joined : Read MediaQuery → (List ℕ → Answer) → Answer

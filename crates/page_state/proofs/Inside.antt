@@ -98,7 +98,7 @@ prepared page after names findings is same listed roomier =
 asked_grown : (version : Version) (queries : List QueryList) (documents more : ℕ) → documents ≤ more → AreAsked version queries documents → AreAsked version queries more
 asked_grown version queries documents more grown asked = record { documents = all queries asked.documents; few = asked.few }
   where
-    all : (queries : List QueryList) → AllByRecursion (λ (it : QueryList). it.document < documents) queries → AllByRecursion (λ (it : QueryList). it.document < more) queries
+    all : (queries : List QueryList) → AllByRecursion (λ (it : QueryList). it.document.0 < documents) queries → AllByRecursion (λ (it : QueryList). it.document.0 < more) queries
     all [] are = tt
     all (first ∷ others) are = (omega (arith, are.0, grown), all others are.1)
 
@@ -265,8 +265,8 @@ seeing_page page names after scroll text document n handler root margins moves t
       time = is.time;
     })
 
-all_asked : (most : ℕ) (queries : List QueryList) (last : QueryList) → AllByRecursion (λ (it : QueryList). it.document < most) queries → last.document < most
-    → AllByRecursion (λ (it : QueryList). it.document < most) (queries ++ last ∷ [])
+all_asked : (most : ℕ) (queries : List QueryList) (last : QueryList) → AllByRecursion (λ (it : QueryList). it.document.0 < most) queries → last.document.0 < most
+    → AllByRecursion (λ (it : QueryList). it.document.0 < most) (queries ++ last ∷ [])
 all_asked most [] last all is = (is, tt)
 all_asked most (first ∷ others) last all is = (all.0, all_asked most others last all.1 is)
 
@@ -292,9 +292,9 @@ module _ (page : Inside) (names : KnownNames) (queries : List QueryList) (text :
   pub query_elements : AreElementNames names.list page.laid.elements
   query_elements = subst (λ (it : List Name). AreElementNames it page.laid.elements) (sym listed) (names_more page.names.list page.laid.elements (counts_in page) _ refl is.known is.elements)
 
-  pub query_asked : last.document < length page.laid.elements.tree.documents → length page.queries.items < 4096 → AreAsked page.version queries (length page.laid.elements.tree.documents)
+  pub query_asked : last.document.0 < length page.laid.elements.tree.documents → length page.queries.items < 4096 → AreAsked page.version queries (length page.laid.elements.tree.documents)
   query_asked of few = record {
-    documents = subst (λ (it : List QueryList). AllByRecursion (λ (each : QueryList). each.document < length page.laid.elements.tree.documents) it) (sym made)
+    documents = subst (λ (it : List QueryList). AllByRecursion (λ (each : QueryList). each.document.0 < length page.laid.elements.tree.documents) it) (sym made)
         (all_asked (length page.laid.elements.tree.documents) page.queries.items last is.asked.documents of);
     few = omega (arith, few, more);
   }

@@ -1,6 +1,6 @@
 //! Commands on the intersection observers of a page (Intersection Observer, 2.2).
 
-ghost use Rattle.std.specs.Prelude.{◌≡◌, ◌<◌, ℕ, false, length, unwrap_or, [], IfOk};
+ghost use Rattle.std.specs.Prelude.{◌≡◌, ◌<◌, ℕ, false, length, unwrap_or, []};
 ghost use Rattle.script_model.specs.Scripts.{handlers_in};
 ghost use Rattle.script_model.specs.MarginText.{margins_of};
 ghost use Rattle.script_model.specs.Syntax.{MakeIntersectionObserver, ObserveIntersection, UnobserveIntersection, DisconnectIntersection, TakeIntersections};

@@ -1,6 +1,6 @@
 //! Operands looked up on a page: what is found is there.
 
-ghost use Rattle.std.specs.Prelude.{◌≡◌, ◌<◌, length, option_map, IfOk};
+ghost use Rattle.std.specs.Prelude.{◌<◌, length, option_map, IfOk};
 ghost use Rattle.element_tree.specs.Documents.{document_number};
 ghost use Rattle.element_tree.specs.Links.{number};
 ghost use Rattle.page_model.specs.Operands.{document_named, element_meant, container_meant, resize_observer_named, intersection_observer_named, query_list_named, root_meant, event_target_meant};

@@ -1,12 +1,12 @@
 //! What the resize loop asks of a page (Resize Observer, 3.4). Sizes are those of boxes as they are now.
 
 ghost use Rattle.std.specs.Prelude.{◌≡◌, ◌<◌, ℕ, length, option_map, IfOk, IfSome, OnErr};
-ghost use Rattle.page_model.specs.Gathering.{has_skipped, sight_in, sight_of, without_active, size_entry};
+ghost use Rattle.page_model.specs.Gathering.{has_skipped, sight_of, without_active};
 ghost use Rattle.page_model.specs.Loop.{gather};
 ghost use Rattle.page_laws.specs.Ready.{IsReadyFor};
 ghost use Rattle.depth_gather.specs.Deliveries.{turn_of, active_at, entries_in};
 ghost use Rattle.depth_gather.specs.Gathering.{active_count};
-ghost use Rattle.depth_gather.specs.Entries.{as_size, as_point, HasLengths};
+ghost use Rattle.depth_gather.specs.Entries.{HasLengths};
 ghost use Rattle.std.specs.List.{AllByRecursion};
 ghost use Rattle.page_state.specs.Boxes.{Computes};
 ghost use Rattle.page_state.specs.Rounds.{next_turn, once_reported};

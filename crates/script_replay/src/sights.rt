@@ -1,6 +1,6 @@
 //! What is seen of a page as a tick of its script ends.
 
-ghost use Rattle.std.specs.Prelude.{◌≡◌, ◌<◌, ◌++◌, ◌-◌, All, IfOk, OnOk, flat_map, length, map};
+ghost use Rattle.std.specs.Prelude.{◌≡◌, ◌<◌, ◌++◌, ◌-◌, All, IfOk, OnOk, length, map};
 ghost use Rattle.element_tree.specs.Links.{number as numbered};
 ghost use Rattle.page_model.specs.Names.{element_text};
 ghost use Rattle.page_model.specs.Outcome.{opening_world};

@@ -1,5 +1,5 @@
 -- Commands by what they are, and sizes of blocks: what a walk through commands goes by.
-use Rattle.std.proofs.Common.{◌≡◌, ℕ, zero, suc, ◌+◌, ◌<◌, ◌≤◌, List, [], ◌∷◌, get_or, length, refl, ap, arith}
+use Rattle.std.proofs.Common.{◌≡◌, ℕ, zero, suc, ◌+◌, ◌<◌, ◌≤◌, List, [], ◌∷◌, get_or, length, ap, arith}
 use Rattle.script_model.specs.Syntax.{Simple}
 use Rattle.script_syntax.specs.Seen.{action_of, command_at, command_of, block_of, command_size, block_size}
 use Rattle.script_syntax.specs.declared.operands.Condition.{Condition}

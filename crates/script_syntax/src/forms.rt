@@ -95,7 +95,10 @@ impl Words<'_> {
         ensures { Gives (λ aim. (aim_of aim, self.new)) result (part_as AimForm self.old) }
     {
         let word = self.next()?;
-        aim_named(word.text).ok_or(word.fault())
+        match aim_named(word.text) {
+            Some(aim) => Ok(aim),
+            None => Err(word.fault()),
+        }
     }
 
     /// The name of a handler, or `-` for none.

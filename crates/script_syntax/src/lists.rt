@@ -28,7 +28,7 @@ impl Words<'_> {
     }
 
     /// `scroll` and the words of a margin, where that word stands next, in scripts of the second version.
-    #[tactic(auto, unfolding(script_model::specs::Forms::scroll_as), using(crate::proofs::NextWords::scroll_taken, crate::proofs::NextWords::scroll_absent))]
+    #[tactic(auto, unfolding(script_model::specs::Forms::scroll_as))]
     fn scroll(&mut self, alloc: Global, version: Version) -> Result<Option<MarginText>, LineFault>
         ensures { Gives (λ text. (text, self.new)) result (scroll_as version self.old) }
     {

@@ -28,7 +28,7 @@ use text_io::{LimitKind, Version};
 /// `Syntax` and `ScriptLimit` exactly where the text is no script, the first in the text. The limit `Script` is met
 /// before any line is looked at, where the text has more than 16,777,216 bytes; its line is 1 more than the number of line
 /// feeds in that many bytes. `Memory` where no memory is left.
-#[tactic(auto, unfolding(script_model::specs::Reading::reading), using(crate::proofs::Finishes::ends_soon, crate::proofs::Refusals::stopped_at_common))]
+#[tactic(auto, unfolding(script_model::specs::Reading::reading), using(crate::proofs::Finishes::ends_soon))]
 pub fn parse(alloc: Global, text: &Text) -> Result<Script, ParseFault>
     requires { text_seen text.now ≡ lexed text.now.bytes }
     ensures value { Parses result (reading text.now.bytes) }

@@ -2,10 +2,7 @@
 
 ghost use Rattle.std.specs.Prelude.{◌≡◌, true, IfOk, OnOk, OnErr, Err};
 ghost use Rattle.std.specs.List.{All};
-ghost use Rattle.script_model.specs.Syntax.{Item as ItemModel};
-ghost use Rattle.script_model.specs.Reading.{Reading, reading};
 ghost use Rattle.script_syntax.specs.Seen.{item_of};
-ghost use Rattle.page_model.specs.Outcome.{opening_world};
 ghost use Rattle.trace_runs.specs.Writes.{Wrote};
 ghost use Rattle.trace_summary.specs.Counts.{IsTrace};
 ghost use Rattle.stream_runs.specs.Alone.{IsOneLine};

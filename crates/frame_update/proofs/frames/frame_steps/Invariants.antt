@@ -1,20 +1,18 @@
 use Rattle.std.proofs.Common.{length}
-use Rattle.script_model.specs.Scripts.{handlers_in}
+use Rattle.page_model.specs.Callbacks.{Script}
 use Rattle.page_model.specs.Ticks.{frame_steps}
-use Rattle.trace_runs.proofs.Following.{Following}
-use Rattle.frame_update.specs.Ready.{IsPrepared}
 use Rattle.frame_update.proofs.FrameTurns.{frames_left, AreOf}
+use Rattle.frame_update.proofs.Going.{IsOnItsWay}
 use Rattle.frame_update.proofs.frames.frame_steps.Given as goal
 
 -- the frame callbacks up to here were run, and those of the batch that still stand follow
-abbrev pub invariant-loop-alloc : goal.invariant-loop-alloc
-invariant-loop-alloc g l = record {
-  following :
-      Following (g.K.Sink.taken l.fn.sink) (g.K.Sink.taken l.sink) (g.K.Sink.faults l.fn.sink) (g.K.Sink.faults l.sink) (frame_steps (handlers_in l.script.items) l.document.0 l.fn.page.world)
-      (frames_left (handlers_in l.script.items) l.document.0 l.batch l.page.world);
-  ready : IsPrepared l.script.items l.page.world;
+abbrev pub invariant-loop-document : goal.invariant-loop-document
+invariant-loop-document g l = record {
+  way :
+      IsOnItsWay g.K.Sink.taken g.K.Sink.faults l.fn.run l.run (λ (script : Script). frame_steps script l.document.0 l.fn.run.page.now.world)
+      (λ (script : Script). frames_left script l.document.0 l.batch l.run.page.now.world);
   own : AreOf l.document.0 l.batch;
 }
 
-abbrev pub decreases-loop-alloc : goal.decreases-loop-alloc
-decreases-loop-alloc g l = length l.batch
+abbrev pub decreases-loop-document : goal.decreases-loop-document
+decreases-loop-document g l = length l.batch

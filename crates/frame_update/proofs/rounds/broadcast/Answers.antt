@@ -1,72 +1,88 @@
-use Rattle.std.proofs.Common.{ap, arith, sym}
+use Rattle.std.proofs.Common.{◌∙◌, ap, arith, refl, subst, sym}
+use Rattle.std.specs.Borrow.{Bor}
+use Rattle.script_model.specs.Syntax as syntax
+use Rattle.page_model.specs.Callbacks.{Script}
 use Rattle.page_model.specs.Gathering.{sight_of}
+use Rattle.page_model.specs.Loop.{broadcast}
 use Rattle.depth_gather.specs.Deliveries.{active_at}
 use Rattle.page_state.specs.Views.{PageView}
 use Rattle.trace_runs.proofs.Following.{end_memory}
-use Rattle.frame_update.proofs.Stopped.{stopped_run}
+use Rattle.frame_update.specs.Ready.{IsPrepared}
+use Rattle.frame_update.proofs.Going.{arrived, over_first, stopped}
 use Rattle.frame_update.proofs.Broadcasts.{broadcast_begins, broadcast_cut, broadcast_left, broadcast_none, broadcast_on, handed_entries, handed_made, handed_out, place_few, place_past}
 use Rattle.frame_update.proofs.Ready.{still_prepared}
 use Rattle.frame_update.proofs.rounds.broadcast.Goals as goal
 
-pub loop-alloc-init : goal.loop-alloc-init
-loop-alloc-init g c = broadcast_begins c.args.script.now.items c.args.document.0 _ _ c.args.page.now.world c.requires.ready
+pub loop-document-init : goal.loop-document-init
+loop-document-init g c = record { turns = broadcast_begins c.args.run.now.script.now.items c.args.document.0 _ _ c.args.run.now.page.now.world c.requires.ready; script = refl; lent = refl }
 
-pub returns-in_default-clause-says : goal.returns-in_default-clause-says
-returns-in_default-clause-says g c = end_memory c.loop-alloc.invariant.following
+pub returns-in_default : goal.returns-in_default
+returns-in_default g c = record {
+  says = over_first (λ (script : Script). broadcast script c.args.document.0 c.args.run.now.page.now.world) c.loop-document.invariant.script (end_memory c.loop-document.invariant.turns.following);
+  ready = tt;
+  script = c.loop-document.invariant.script;
+  lent = c.loop-document.invariant.lent;
+}
 
-pub returns-in_default-next-clause-says : goal.returns-in_default-next-clause-says
-returns-in_default-next-clause-says g c =
-    broadcast_none c.loop-alloc.invariant (sym (rw c.in_default-next.is at c.in-Ok.ensures.turn)) (ap (λ (page : PageView). page.world) c.in-Ok.ensures.reported) (sym c.loop-alloc-test.ensures)
-
-pub returns-in_default-next-clause-ready : goal.returns-in_default-next-clause-ready
-returns-in_default-next-clause-ready g c =
-    still_prepared c.args.script.now.items c.loop-alloc.page.world c.next_delivery.new.self.world c.in-Ok.ensures.ready c.loop-alloc.invariant.ready
+pub returns-in_default-next : goal.returns-in_default-next
+returns-in_default-next g c =
+    arrived c.loop-document.invariant.script c.loop-document.invariant.lent (still_prepared c.loop-document.run.script.now.items c.loop-document.run.page.now.world c.next_delivery.new.self.world c.in-Ok.ensures.ready c.loop-document.invariant.turns.ready)
+    (over_first (λ (script : Script). broadcast script c.args.document.0 c.args.run.now.page.now.world) c.loop-document.invariant.script
+    (broadcast_none c.loop-document.invariant.turns (sym (rw c.in_default-next.is at c.in-Ok.ensures.turn)) (ap (λ (page : PageView). page.world) c.in-Ok.ensures.reported) (sym c.loop-document-test.ensures)))
 
 pub call_observer-requires-clause-ready : goal.call_observer-requires-clause-ready
-call_observer-requires-clause-ready g c =
-    still_prepared c.args.script.now.items c.loop-alloc.page.world c.next_delivery.new.self.world c.in-Ok.ensures.ready c.loop-alloc.invariant.ready
+call_observer-requires-clause-ready g c = still_prepared c.loop-document.run.script.now.items c.loop-document.run.page.now.world c.next_delivery.new.self.world c.in-Ok.ensures.ready c.loop-document.invariant.turns.ready
 
 pub call_observer-requires-clause-observer : goal.call_observer-requires-clause-observer
 call_observer-requires-clause-observer g c =
     let it = c.in-Ok.ensures in
-    handed_made c.args.document.0 c.loop-alloc.place c.loop-alloc.page.world c.next_delivery.new.self.world c.in-Some.delivery
+    handed_made c.args.document.0 c.loop-document.place c.loop-document.run.page.now.world c.next_delivery.new.self.world c.in-Some.delivery
     (handed_out _ _ _ _ c.in-Ok.next c.in-Some.delivery c.in-Some.is it.turn it.entries (ap (λ (page : PageView). page.world) it.reported) it.made it.some)
 
 pub call_observer-requires-clause-entries : goal.call_observer-requires-clause-entries
 call_observer-requires-clause-entries g c =
     let it = c.in-Ok.ensures in
-    handed_entries c.args.document.0 c.loop-alloc.place c.loop-alloc.page.world c.next_delivery.new.self.world c.in-Some.delivery
+    handed_entries c.args.document.0 c.loop-document.place c.loop-document.run.page.now.world c.next_delivery.new.self.world c.in-Some.delivery
     (handed_out _ _ _ _ c.in-Ok.next c.in-Some.delivery c.in-Some.is it.turn it.entries (ap (λ (page : PageView). page.world) it.reported) it.made it.some)
-    c.args.script.now.items c.loop-alloc.invariant.ready
+    c.loop-document.run.script.now.items c.loop-document.invariant.turns.ready
 
-pub loop-alloc-smaller : goal.loop-alloc-smaller
-loop-alloc-smaller g c =
+pub loop-document-smaller : goal.loop-document-smaller
+loop-document-smaller g c =
     let it = c.in-Ok.ensures in
     let handed =
-    handed_out c.args.document.0 c.loop-alloc.place c.loop-alloc.page.world c.next_delivery.new.self.world c.in-Ok.next c.in-Some.delivery c.in-Some.is it.turn it.entries
+    handed_out c.args.document.0 c.loop-document.place c.loop-document.run.page.now.world c.next_delivery.new.self.world c.in-Ok.next c.in-Some.delivery c.in-Some.is it.turn it.entries
     (ap (λ (page : PageView). page.world) it.reported) it.made it.some in
-    omega (arith, place_few c.loop-alloc.invariant, place_past c.loop-alloc.invariant handed)
+    omega (arith, place_few c.loop-document.invariant.turns, place_past c.loop-document.invariant.turns handed)
 
-pub loop-alloc-preserved : goal.loop-alloc-preserved
-loop-alloc-preserved g c =
+pub loop-document-preserved : goal.loop-document-preserved
+loop-document-preserved g c =
     let it = c.in-Ok.ensures in
     let handed =
-    handed_out c.args.document.0 c.loop-alloc.place c.loop-alloc.page.world c.next_delivery.new.self.world c.in-Ok.next c.in-Some.delivery c.in-Some.is it.turn it.entries
+    handed_out c.args.document.0 c.loop-document.place c.loop-document.run.page.now.world c.next_delivery.new.self.world c.in-Ok.next c.in-Some.delivery c.in-Some.is it.turn it.entries
     (ap (λ (page : PageView). page.world) it.reported) it.made it.some in
-    rw c.shallower-least.ensures
-    (broadcast_on c.loop-alloc.invariant handed (sym c.loop-alloc-test.ensures) (c.entries_are_those_of_a_broadcast.ensures.entries (sight_of c.loop-alloc.page.world) (active_at c.loop-alloc.page.world.resize_observers c.in-Some.delivery.observer.0)) c.least_depth.ensures c.in_ok-call_observer.ensures.says c.in_ok-call_observer.ensures.ready)
+    let called = c.in_ok-call_observer.ensures in
+    record {
+      turns =
+          rw (called.script, c.shallower-least.ensures)
+          (broadcast_on c.loop-document.invariant.turns handed (sym c.loop-document-test.ensures) (c.entries_are_those_of_a_broadcast.ensures.entries (sight_of c.loop-document.run.page.now.world) (active_at c.loop-document.run.page.now.world.resize_observers c.in-Some.delivery.observer.0)) c.least_depth.ensures called.says
+          (subst (λ (it : Bor syntax.Script). IsPrepared it.now.items c.call_observer.new.run.page.now.world) called.script called.ready));
+      script = called.script ∙ c.loop-document.invariant.script;
+      lent = called.lent ∙ c.loop-document.invariant.lent;
+    }
 
-pub returns-in_err-call_observer-clause-says : goal.returns-in_err-call_observer-clause-says
-returns-in_err-call_observer-clause-says g c =
+pub returns-in_err-call_observer : goal.returns-in_err-call_observer
+returns-in_err-call_observer g c =
     let it = c.in-Ok.ensures in
     let handed =
-    handed_out c.args.document.0 c.loop-alloc.place c.loop-alloc.page.world c.next_delivery.new.self.world c.in-Ok.next c.in-Some.delivery c.in-Some.is it.turn it.entries
+    handed_out c.args.document.0 c.loop-document.place c.loop-document.run.page.now.world c.next_delivery.new.self.world c.in-Ok.next c.in-Some.delivery c.in-Some.is it.turn it.entries
     (ap (λ (page : PageView). page.world) it.reported) it.made it.some in
-    stopped_run c.from_residual.result c.in_err-call_observer.field-0.0 c.from_residual.ensures
-    (broadcast_cut c.loop-alloc.invariant handed (sym c.loop-alloc-test.ensures) (c.entries_are_those_of_a_broadcast.ensures.entries (sight_of c.loop-alloc.page.world) (active_at c.loop-alloc.page.world.resize_observers c.in-Some.delivery.observer.0)) c.least_depth.ensures c.in_err-call_observer.field-0.0 c.in_err-call_observer.ensures.says)
+    let called = c.in_err-call_observer.ensures in
+    stopped c.from_residual.result c.in_err-call_observer.field-0.0 c.from_residual.ensures (called.script ∙ c.loop-document.invariant.script) (called.lent ∙ c.loop-document.invariant.lent)
+    (over_first (λ (script : Script). broadcast script c.args.document.0 c.args.run.now.page.now.world) c.loop-document.invariant.script
+    (broadcast_cut c.loop-document.invariant.turns handed (sym c.loop-document-test.ensures) (c.entries_are_those_of_a_broadcast.ensures.entries (sight_of c.loop-document.run.page.now.world) (active_at c.loop-document.run.page.now.world.resize_observers c.in-Some.delivery.observer.0)) c.least_depth.ensures c.in_err-call_observer.field-0.0 called.says))
 
-pub returns-clause-says : goal.returns-clause-says
-returns-clause-says g c = broadcast_left c.loop-alloc.invariant (sym c.loop-alloc-test.ensures)
-
-pub returns-clause-ready : goal.returns-clause-ready
-returns-clause-ready g c = c.loop-alloc.invariant.ready
+pub returns : goal.returns
+returns g c =
+    arrived c.loop-document.invariant.script c.loop-document.invariant.lent c.loop-document.invariant.turns.ready
+    (over_first (λ (script : Script). broadcast script c.args.document.0 c.args.run.now.page.now.world) c.loop-document.invariant.script
+    (broadcast_left c.loop-document.invariant.turns (sym c.loop-document-test.ensures)))

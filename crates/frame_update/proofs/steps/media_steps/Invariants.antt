@@ -1,18 +1,15 @@
 use Rattle.std.proofs.Common.{◌-◌}
-use Rattle.script_model.specs.Scripts.{handlers_in}
+use Rattle.page_model.specs.Callbacks.{Script}
 use Rattle.page_model.specs.Ticks.{media_steps}
-use Rattle.trace_runs.proofs.Following.{Following}
-use Rattle.frame_update.specs.Ready.{IsPrepared}
 use Rattle.frame_update.proofs.Evaluating.{turns_from}
+use Rattle.frame_update.proofs.Going.{IsOnItsWay}
 use Rattle.frame_update.proofs.steps.media_steps.Given as goal
 
 -- the lists before this place were evaluated, and those from here on follow
-abbrev pub invariant-loop-alloc : goal.invariant-loop-alloc
-invariant-loop-alloc g l =
-    Following (g.K.Sink.taken l.fn.sink) (g.K.Sink.taken l.sink) (g.K.Sink.faults l.fn.sink) (g.K.Sink.faults l.sink)
-    (media_steps (handlers_in l.script.items) l.document.0 l.fn.page.world)
-    (turns_from (handlers_in l.script.items) l.document.0 l.place l.page.world)
-    × IsPrepared l.script.items l.page.world
+abbrev pub invariant-loop-document : goal.invariant-loop-document
+invariant-loop-document g l =
+    IsOnItsWay g.K.Sink.taken g.K.Sink.faults l.fn.run l.run (λ (script : Script). media_steps script l.document.0 l.fn.run.page.now.world)
+    (λ (script : Script). turns_from script l.document.0 l.place l.run.page.now.world)
 
-abbrev pub decreases-loop-alloc : goal.decreases-loop-alloc
-decreases-loop-alloc g l = 4096 - l.place
+abbrev pub decreases-loop-document : goal.decreases-loop-document
+decreases-loop-document g l = 4096 - l.place

@@ -31,23 +31,23 @@ returns-in-Err-set_time-clause-ready g c =
     ready_told c.args.script.now.items c.set_time.new.self.world c.refuse-in-Err-set_time.result
     (c.set_time.ensures.ready handlers (c.begin_command.ensures.ready handlers c.requires.ready))
 
-pub run_parts-requires-clause-ready : goal.run_parts-requires-clause-ready
-run_parts-requires-clause-ready g c =
+pub run_timed-requires-clause-ready : goal.run_timed-requires-clause-ready
+run_timed-requires-clause-ready g c =
     let handlers = length (handlers_in c.args.script.now.items) in
     prepared c.args.script.now.items c.set_time.new.self.world (c.set_time.ensures.ready handlers (c.begin_command.ensures.ready handlers c.requires.ready))
 
-pub run_parts-requires-clause-time : goal.run_parts-requires-clause-time
-run_parts-requires-clause-time g c = clock_is c.args.time c.begin_command.new.self.world c.set_time.new.self.world c.in_default-set_time.ensures.set
+pub run_timed-requires-clause-time : goal.run_timed-requires-clause-time
+run_timed-requires-clause-time g c = clock_is c.args.time c.begin_command.new.self.world c.set_time.new.self.world c.in_default-set_time.ensures.set
 
 pub returns-clause-says : goal.returns-clause-says
 returns-clause-says g c =
     run_same
     (timed_is (handlers_in c.args.script.now.items) c.args.line c.args.time c.args.page.now.world c.begin_command.new.self.world c.in_default.ensures.counted c.set_time.new.self.world
     c.in_default-set_time.ensures.set)
-    (caught_run c.run_parts.result c.run_parts.ensures.says)
+    (caught_run c.run_timed.result c.run_timed.ensures.says)
 
 pub returns-clause-ready : goal.returns-clause-ready
-returns-clause-ready g c = readied c.args.script.now.items c.run_parts.new.page.world c.run_parts.result c.run_parts.ensures.ready
+returns-clause-ready g c = readied c.args.script.now.items c.run_timed.new.page.world c.run_timed.result c.run_timed.ensures.ready
 
 pub returns-in-Err-clause-loops : goal.returns-in-Err-clause-loops
 returns-in-Err-clause-loops g c =

@@ -1,34 +1,33 @@
-use Rattle.std.proofs.Common.{sym, arith}
+use Rattle.std.proofs.Common.{◌+◌, drop, refl, sym}
+use Rattle.std.proofs.lemmas.List.{get_or_default}
 use Rattle.element_tree.specs.declared.document.DocumentId.{DocumentId}
 use Rattle.script_model.specs.Scripts.{handlers_in}
-use Rattle.page_model.specs.Callbacks.{while_active}
-use Rattle.trace_runs.proofs.Following.{begin, rest_same}
+use Rattle.page_model.specs.Callbacks.{while_active, Script}
+use Rattle.trace_runs.proofs.Loops.{each_more, each_none}
 use Rattle.frame_update.specs.Parts.{part_of}
-use Rattle.frame_update.proofs.Rendering.{each_cut, each_done, each_go_on, over_same}
-use Rattle.frame_update.proofs.Stopped.{stopped_run}
+use Rattle.frame_update.proofs.Rendering.{over_each, over_same}
+use Rattle.frame_update.proofs.Going.{run_begins, run_goes_on, run_is_cut, run_is_done}
 use Rattle.frame_update.proofs.update.run_for_each.Goals as goal
 
 pub loop-document-init : goal.loop-document-init
-loop-document-init g c = record {
-  following = rest_same (sym (over_same (handlers_in c.args.script.now.items) c.args.documents.now c.args.part c.args.page.now.world)) begin;
-  ready = c.requires.ready;
-}
+loop-document-init g c =
+    run_begins refl c.requires.ready
+    (sym (over_same (handlers_in c.args.run.now.script.now.items) c.args.documents.now c.args.part c.args.run.now.page.now.world))
 
 pub loop-document-preserved : goal.loop-document-preserved
-loop-document-preserved g c = record {
-  following =
-      each_go_on (λ (document : DocumentId). while_active document.0 (part_of (handlers_in c.args.script.now.items) c.args.part document.0)) c.args.documents.now c.loop-document.document-index c.loop-document.page.world c.loop-document.invariant.following
-      (record { 0 = 0 }) c.loop-document-test.true c.in_ok-run_while_active.field-0 c.in_ok-run_while_active.ensures.says;
-  ready = c.in_ok-run_while_active.ensures.ready;
-}
+loop-document-preserved g c =
+    run_goes_on c.loop-document.invariant c.in_ok-run_while_active.ensures refl (λ (script : Script). over_each script (drop (c.loop-document.document-index + 1) c.args.documents.now) c.args.part)
+    (each_more (λ (document : DocumentId). while_active document.0 (part_of (handlers_in c.loop-document.run.script.now.items) c.args.part document.0)) c.args.documents.now c.loop-document.document-index _
+    c.loop-document.run.page.now.world c.loop-document-test.true (get_or_default c.args.documents.now c.loop-document.document-index (record { 0 = 0 }) _ c.loop-document-test.true))
 
-pub returns-in_err-run_while_active-clause-says : goal.returns-in_err-run_while_active-clause-says
-returns-in_err-run_while_active-clause-says g c =
-    stopped_run c.from_residual.result c.in_err-run_while_active.field-0.0 c.from_residual.ensures
-    (each_cut (λ (document : DocumentId). while_active document.0 (part_of (handlers_in c.args.script.now.items) c.args.part document.0)) c.args.documents.now c.loop-document.document-index c.loop-document.page.world c.loop-document.invariant.following
-    (record { 0 = 0 }) c.loop-document-test.true c.in_err-run_while_active.field-0.0 c.in_err-run_while_active.ensures.says)
+pub returns-in_err-run_while_active : goal.returns-in_err-run_while_active
+returns-in_err-run_while_active g c =
+    run_is_cut c.loop-document.invariant c.in_err-run_while_active.ensures refl (λ (script : Script). over_each script (drop (c.loop-document.document-index + 1) c.args.documents.now) c.args.part)
+    (each_more (λ (document : DocumentId). while_active document.0 (part_of (handlers_in c.loop-document.run.script.now.items) c.args.part document.0)) c.args.documents.now c.loop-document.document-index _
+    c.loop-document.run.page.now.world c.loop-document-test.true (get_or_default c.args.documents.now c.loop-document.document-index (record { 0 = 0 }) _ c.loop-document-test.true))
+    c.from_residual.result c.from_residual.ensures
 
-pub returns-clause-says : goal.returns-clause-says
-returns-clause-says g c =
-    each_done (λ (document : DocumentId). while_active document.0 (part_of (handlers_in c.args.script.now.items) c.args.part document.0)) c.args.documents.now c.loop-document.document-index c.loop-document.page.world c.loop-document.invariant.following
-    (tt {0}) (omega arith)
+pub returns : goal.returns
+returns g c =
+    run_is_done c.loop-document.invariant refl c.loop-document.invariant.ready
+    (each_none (λ (document : DocumentId). while_active document.0 (part_of (handlers_in c.loop-document.run.script.now.items) c.args.part document.0)) c.args.documents.now c.loop-document.document-index c.loop-document.run.page.now.world c.loop-document-test.false)

@@ -4,16 +4,14 @@ use Rattle.page_model.specs.Runs.{silent}
 use Rattle.page_state.specs.Views.{PageView}
 use Rattle.trace_runs.proofs.Runs.{run_same, silent_run}
 use Rattle.frame_update.specs.Parts.{part_of}
+use Rattle.frame_update.proofs.Going.{arrived}
 use Rattle.frame_update.proofs.Ready.{still_prepared}
 use Rattle.frame_update.proofs.update.run_part.Goals as goal
 
-pub returns-in-Ok-clause-says : goal.returns-in-Ok-clause-says
-returns-in-Ok-clause-says g c =
-    run_same
+pub returns-in-Ok : goal.returns-in-Ok
+returns-in-Ok g c =
+    arrived refl refl (still_prepared c.args.run.now.script.now.items c.args.run.now.page.now.world c.update_intersections.new.self.world c.update_intersections.ensures.ready c.requires.ready)
+    (run_same
     (ap (λ (page : PageView). silent (page.world)) c.in-Ok.ensures.updated
-    ∙ ap (λ part. part_of (handlers_in c.args.script.now.items) part c.args.document.0 c.args.page.now.world) (sym c.in-Intersections.is))
-    (silent_run refl)
-
-pub returns-in-Ok-clause-ready : goal.returns-in-Ok-clause-ready
-returns-in-Ok-clause-ready g c =
-    still_prepared c.args.script.now.items c.args.page.now.world c.update_intersections.new.self.world c.update_intersections.ensures.ready c.requires.ready
+    ∙ ap (λ part. part_of (handlers_in c.args.run.now.script.now.items) part c.args.document.0 c.args.run.now.page.now.world) (sym c.in-Intersections.is))
+    (silent_run refl))

@@ -10,5 +10,5 @@ pub returns-clause-place : goal.returns-clause-place
 returns-clause-place c =
     let found : c.position.result ≡ position (bytes_eq c.args.name.now) c.args.pages.now =
     position_from_yields_List (bytes_eq c.args.name.now) _ _ c.position.result c.position.ensures.ran (YieldsList-from_slice c.args.pages.now c.iter.ensures.rest) (λ x b q k. search (rules, tests)) in
-    c.unwrap_or.ensures ∙ ap (λ (o : Option ℕ). unwrap_or o c.len.result) found ∙ ap (λ count. unwrap_or (position (bytes_eq c.args.name.now) c.args.pages.now) count) c.len.ensures
+    c.unwrap_or.ensures ∙ ap (λ (o : Option ℕ). unwrap_or o (length c.args.pages.now)) found
     ∙ place_found (bytes_eq c.args.name.now) c.args.pages.now

@@ -9,4 +9,4 @@ returns-clause-answer c = enters_of seen_frame_callback (is_frame_callback c.arg
 
 pub returns-clause-requested : goal.returns-clause-requested
 returns-clause-requested c =
-    on_ok_weaker c.enter.result (λ entered. entered_of seen_frame_callback (λ serial. (serial, (record { document = c.args.document.0; key = c.args.key }, c.args.handler))) c.self.inside.entries c.enter.new.self c.args.self.now entered c.self.view_is) c.enter.ensures.entered
+    on_ok_weaker c.enter.result (λ entered. entered_of seen_frame_callback (λ serial. (serial, (record { document = c.args.document; key = c.args.key }, c.args.handler))) c.self.inside.entries c.enter.new.self c.args.self.now entered c.self.view_is) c.enter.ensures.entered

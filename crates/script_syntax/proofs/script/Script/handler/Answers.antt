@@ -1,5 +1,5 @@
 -- By the place that is kept for the number.
-use Rattle.std.proofs.Common.{◌≡◌, ℕ, List, Option, Some, None, ap, sym, ◌∙◌, filter, option_map, slice_get}
+use Rattle.std.proofs.Common.{◌≡◌, Option, Some, ap, sym, ◌∙◌, filter, option_map, slice_get}
 use Rattle.std.specs.Borrow.{Bor}
 use Rattle.script_model.specs.Syntax.{Item as ItemModel, Script}
 use Rattle.script_syntax.proofs.Handlers.{at_number, found_at, handler_named, none_named, not_found, other_is_none}
