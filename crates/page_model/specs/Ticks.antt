@@ -7,7 +7,7 @@ use Rattle.script_model.specs.TraceLines.{TraceLine, TickLine, TimerLine, FrameL
 use Rattle.page_model.specs.World.{World, Tree, Container, InElement, InDocument, EventTarget, ElementTarget, DocumentTarget, WindowTarget, QueryTarget, FrameCallback, Timer, Task, Notify, Posted}
 use Rattle.page_model.specs.Lookups.{query_list_at}
 use Rattle.page_model.specs.Documents.{is_active, active_documents}
-use Rattle.page_model.specs.Names.{document_text, query_list_text}
+use Rattle.page_model.specs.Names.{container_text, document_text, query_list_text}
 use Rattle.page_model.specs.PageBoxes.{viewport_of}
 use Rattle.page_model.specs.Viewports.{differs_from, noted_size, with_noted}
 use Rattle.page_model.specs.Scrolls.{pending_of, without_pending}
