@@ -1,5 +1,5 @@
 -- A source that was read, up to what is looked at, and one that can't be read.
-use Rattle.std.proofs.Common.{◌≡◌, ◌∙◌, ap, refl, subst, ℕ, List, Option}
+use Rattle.std.proofs.Common.{◌≡◌, ◌∙◌, ap, refl, subst, sym, ℕ, List, Option}
 use Rattle.std.specs.Prelude.{Some, None, IfSome, false}
 use Rattle.text_io.specs.Streams.{Rose}
 use Rattle.script_model.specs.Reading.{Reading, reading}
@@ -11,7 +11,10 @@ use Rattle.script_source.specs.Sources.{IsUnread, ReadTo}
 use Rattle.run_replies.specs.Replies.{Reply}
 use Rattle.script_replay.specs.ScriptReplies.{read_reply}
 use Rattle.run_replies.specs.Statuses.{is_done}
+use Rattle.run_replies.specs.Words.{looked_at}
 use Rattle.run_replies.specs.declared.words.Job.{Job}
+use Rattle.run_replies.specs.declared.words.Words.{Words}
+use Rattle.run_replies.specs.declared.words.Words.TheVariants.{Generated}
 use Rattle.run_replies.specs.declared.status.Status.{Status}
 use Rattle.run_replies.specs.declared.status.Status.TheVariants.{NoMemory, ReadFault, WriteFault, Usage}
 use Rattle.run_replies.proofs.Endings.{tells_end}
@@ -66,3 +69,14 @@ unread_not_write status f g cause is = subst (λ (s : Status). IsUnread s f g) i
 pub if_told : (P : List ℕ → Type 0) (left : Option (List ℕ)) → ((text : List ℕ) → P text) → IfSome left P
 if_told P None holds = tt
 if_told P (Some text) holds = holds text
+
+-- where none is asked for
+
+unlooked : (status : Status) (left : Option (List ℕ)) → IfSome left (λ text. IsTaken status 0 text left)
+unlooked status None = tt
+unlooked status (Some text) = taken status 0 text (Some text) refl
+
+pub generated_left : (words : Option Words) (job : Job) (number : ℕ) → words ≡ Some (Generated job number) → (status : Status) (left : Option (List ℕ))
+    → IfSome words (λ asks. IfSome left (λ text. IsTaken status (looked_at asks) text left))
+generated_left words job number are status left =
+    subst (λ (it : Option Words). IfSome it (λ asks. IfSome left (λ text. IsTaken status (looked_at asks) text left))) (sym are) (unlooked status left)
