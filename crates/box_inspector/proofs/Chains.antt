@@ -4,7 +4,7 @@ use Rattle.px_units.specs.declared.Rect.{Rect}
 use Rattle.page_model.specs.World.{ImplicitRoot}
 use Rattle.page_model.specs.Shown.{Shown, has_box}
 use Rattle.page_model.specs.Chains.{border_rect, clips_between, common_part, moved_back, origin_of_element, viewport_rect}
-use Rattle.clip_chain.specs.declared.spot.Spot.{Spot}
+use Rattle.element_tree.specs.declared.container.Container.{Container}
 use Rattle.clip_chain.specs.Chains.{IsAbove, Leads}
 use Rattle.clip_chain.specs.Visible.{part_between}
 use Rattle.clip_chain.specs.Worlds.{scene_of, element_spot, view_spot}
@@ -24,7 +24,7 @@ module _ (it : Shown) (page : IsPageTree it.tree) (n : ℕ) (boxed : has_box it 
       (few_between it.tree it.screen it.scrolls page.framed page.few page.deep (element_spot n) (view_spot 0) to_screen.0 to_screen.1)
 
   pub seen_is : (screen : Rect) (result : Option Rect) → screen ≡ viewport_rect it 0
-      → ((between : List Spot) → Leads (scene_of it) (element_spot n) between (view_spot 0) → result ≡ part_between (scene_of it) (element_spot n) between screen)
+      → ((between : List Container) → Leads (scene_of it) (element_spot n) between (view_spot 0) → result ≡ part_between (scene_of it) (element_spot n) between screen)
       → result ≡ common_part (border_rect it n) (viewport_rect it 0 ∷ clips_between it ImplicitRoot n)
   seen_is screen result is part =
       part to_screen.0 to_screen.1 ∙ ap (λ limits. part_between (scene_of it) (element_spot n) to_screen.0 limits) is ∙ part_seen

@@ -1,22 +1,21 @@
 //! What is seen of a box.
 
 ghost use Rattle.std.specs.Prelude.{◌≡◌, true, IfSome};
-ghost use Rattle.page_model.specs.Shown.{has_box};
+ghost use Rattle.page_model.specs.Shown.{has_box, place_of, size_of};
 ghost use Rattle.clip_chain.specs.Ranges.{IsBounds};
 ghost use Rattle.page_model.specs.Chains.{moved_back, origin_of_element};
 ghost use Rattle.page_model.specs.Readings.{rect_of};
-ghost use Rattle.page_model.specs.Shown.{place_of, size_of};
 ghost use Rattle.px_units.specs.declared.BoxKind.TheVariants.{Border};
 ghost use Rattle.trace_text.specs.Ranges.{RectReaches};
 ghost use Rattle.box_inspector.specs.Boxes.{seen_part};
 
-use clip_chain::{Geometry, Spot, visible_rect};
-use element_tree::{DocumentId, NodeId};
+use clip_chain::{Geometry, visible_rect};
+use element_tree::{Container, DocumentId, NodeId};
 use page_geometry::Shown;
 use px_units::{Rect, shift};
 
 /// The viewport of the top document.
-const SCREEN: Spot = Spot::View(DocumentId(0));
+const SCREEN: Container = Container::Document(DocumentId(0));
 
 // A rectangle as it is in the viewport of an element's document.
 fn in_document(shown: &Shown<'_>, node: NodeId, part: Rect) -> Rect
@@ -24,7 +23,7 @@ fn in_document(shown: &Shown<'_>, node: NodeId, part: Rect) -> Rect
     ensures value { result ≡ moved_back (origin_of_element shown.now node.0) part }
     ensures reach { RectReaches result }
 {
-    let own = shown.bounds(Spot::View(shown.document_of(node)));
+    let own = shown.bounds(Container::Document(shown.document_of(node)));
     shift(part, -own.left, -own.top)
 }
 
@@ -40,7 +39,7 @@ pub fn seen_part(shown: &Shown<'_>, node: NodeId) -> Option<Rect>
     // It tells that chains lead to the viewport of `top`, and how long they are.
     shown.document_count();
     let screen = shown.bounds(SCREEN);
-    let part = visible_rect(shown, Spot::Node(node), SCREEN, screen)?;
+    let part = visible_rect(shown, Container::Element(node), SCREEN, screen)?;
     Some(in_document(shown, node, part))
 }
 

@@ -8,7 +8,7 @@ use Rattle.px_units.specs.Rects.{has_points, overlap, meeting}
 use Rattle.page_model.specs.Chains.{common_part}
 use Rattle.page_model.specs.World.{IntersectionObserver}
 use Rattle.clip_chain.proofs.Parts.{none_left}
-use Rattle.clip_chain.specs.declared.spot.Spot.{Spot}
+use Rattle.element_tree.specs.declared.container.Container.{Container}
 use Rattle.clip_chain.specs.Scenes.{Scene}
 use Rattle.clip_chain.specs.Worlds.{element_spot}
 use Rattle.kept_clips.specs.declared.clip.Clip.{Clip}
@@ -88,7 +88,7 @@ all_left bounds limits (first ∷ others) =
     ∙ sym (with_clips bounds limits first others)
 
 -- what is found from the basis is what is found
-pub found_is : (scene : Scene) (standing : Standing) (observer : IntersectionObserver) (target : ℕ) (between : List Spot) → found_from observer.thresholds (basis_over scene standing observer target between) ≡ finding_over scene standing observer target between
+pub found_is : (scene : Scene) (standing : Standing) (observer : IntersectionObserver) (target : ℕ) (between : List Container) → found_from observer.thresholds (basis_over scene standing observer target between) ≡ finding_over scene standing observer target between
 found_is scene Apart observer target between = refl
 found_is scene NoBox observer target between = refl
 found_is scene Chained observer target between =

@@ -6,7 +6,7 @@ use Rattle.std.proofs.Math.ListN.{get_or-map}
 use Rattle.std.proofs.lemmas.List.{length-map, append-nil, drop_all}
 use Rattle.std.proofs.lemmas.List.Elements.{filter-append}
 use Rattle.page_model.specs.World.{Root, IntersectionObservers}
-use Rattle.clip_chain.specs.declared.spot.Spot.{Spot}
+use Rattle.element_tree.specs.declared.container.Container.{Container}
 use Rattle.clip_chain.specs.Scenes.{Scene}
 use Rattle.kept_clips.specs.Held.{HeldClips}
 use Rattle.intersection_observer.specs.Seen.{serial_numbers}
@@ -35,7 +35,7 @@ stale_step test items more rest left serials x so_far is added =
     ∙ ap (λ r. items ++ filter test r) (sym is)
     ∙ so_far
 
-module _ (scene : Scene) (standings : Root → ℕ → Standing) (it : IntersectionObservers) (between : ℕ → List Spot) where
+module _ (scene : Scene) (standings : Root → ℕ → Standing) (it : IntersectionObservers) (between : ℕ → List Container) where
   pub clips_step : (rest left : List ℕ) (x : ℕ) (clips later all : HeldClips) → all_asked scene standings it between rest clips ≡ all → rest ≡ x ∷ left → later ≡ asked_for scene standings it between x clips → all_asked scene standings it between left later ≡ all
   clips_step rest left x clips later all so_far is asked =
       ap (all_asked scene standings it between left) asked

@@ -6,7 +6,7 @@ use Rattle.std.specs.Ordering.{nat_cmp, int_eq}
 use Rattle.std.proofs.lemmas.Bool.Decides.{Decides-int_eq}
 use Rattle.px_units.specs.declared.Rect.{Rect}
 use Rattle.page_model.specs.World.{Root, IntersectionObservers}
-use Rattle.clip_chain.specs.declared.spot.Spot.{Spot}
+use Rattle.element_tree.specs.declared.container.Container.{Container}
 use Rattle.clip_chain.specs.Scenes.{Scene}
 use Rattle.kept_clips.specs.declared.clip.Clip.{Clip}
 use Rattle.kept_clips.specs.declared.clip.Clip.TheVariants as clips
@@ -102,20 +102,20 @@ not_stale : (kept : Kept) (now : Basis) (b : Bool) → is_same_basis kept.basis 
 not_stale kept now true e stale = e
 not_stale kept now false e stale = let wrong : true ≡ false = stale in absurd (let no : ⊥ = cc in no)
 
-still_found : (scene : Scene) (standings : Root → ℕ → Standing) (it : IntersectionObservers) (serial : ℕ) (between : List Spot) (kept : Kept) → seen_finding kept.finding ≡ found_from (observer_of it serial).thresholds kept.basis → is_stale (Some kept) (basis_for scene standings it serial between) ≡ false → seen_finding kept.finding ≡ finding_for scene standings it serial between
+still_found : (scene : Scene) (standings : Root → ℕ → Standing) (it : IntersectionObservers) (serial : ℕ) (between : List Container) (kept : Kept) → seen_finding kept.finding ≡ found_from (observer_of it serial).thresholds kept.basis → is_stale (Some kept) (basis_for scene standings it serial between) ≡ false → seen_finding kept.finding ≡ finding_for scene standings it serial between
 still_found scene standings it serial between kept found fresh =
     let now = basis_for scene standings it serial between in
     let same = same_basis kept.basis now (not_stale kept now (is_same_basis kept.basis now) refl fresh) in
     found ∙ ap (found_from (observer_of it serial).thresholds) same
     ∙ found_is scene (standing_for standings it serial) (observer_of it serial) (target_of it serial) between
 
-of_last : (scene : Scene) (standings : Root → ℕ → Standing) (it : IntersectionObservers) (serial : ℕ) (between : List Spot) (last : Option Kept)
+of_last : (scene : Scene) (standings : Root → ℕ → Standing) (it : IntersectionObservers) (serial : ℕ) (between : List Container) (last : Option Kept)
     → IsFound (observer_of it serial).thresholds last → is_stale last (basis_for scene standings it serial between) ≡ false
     → IsSome last × IfSome last (λ (kept : Kept). seen_finding kept.finding ≡ finding_for scene standings it serial between)
 of_last scene standings it serial between None found fresh = never (sym fresh)
 of_last scene standings it serial between (Some kept) found fresh = (refl, still_found scene standings it serial between kept found fresh)
 
-pub still_kept : (scene : Scene) (standings : Root → ℕ → Standing) (it : IntersectionObservers) (between : ℕ → List Spot) (kept : FinMap nat_cmp (Option Kept)) (serial : ℕ)
+pub still_kept : (scene : Scene) (standings : Root → ℕ → Standing) (it : IntersectionObservers) (between : ℕ → List Container) (kept : FinMap nat_cmp (Option Kept)) (serial : ℕ)
     → AreFound it kept → is_stale_now scene standings it between kept serial ≡ false
     → IsSome (kept_of kept serial) × IfSome (kept_of kept serial) (λ (last : Kept). seen_finding last.finding ≡ finding_for scene standings it serial (between serial))
 still_kept scene standings it between kept serial found fresh = of_last scene standings it serial (between serial) (kept_of kept serial) (found.found serial) fresh

@@ -3,12 +3,11 @@ use Rattle.std.proofs.Common.{◌≡◌, ◌∙◌, ℕ, Bool, true, false, cond
 use Rattle.px_units.specs.declared.Point.{Point}
 use Rattle.px_units.specs.declared.Rect.{Rect}
 use Rattle.script_model.specs.Margins.{Margins}
-use Rattle.page_model.specs.Shown.{Shown}
+use Rattle.page_model.specs.Shown.{Shown, has_box}
 use Rattle.page_model.specs.World.{Root, ImplicitRoot, DocumentRoot, ElementRoot, IntersectionObserver}
-use Rattle.page_model.specs.Shown.{has_box}
 use Rattle.page_model.specs.Chains.{zero_rect, moved_back, moved_out, origin_of_element, border_rect, padding_rect, clips_in, clips_for, common_part, element_root_bounds, root_bounds as root_bounds_in, root_rect}
 use Rattle.page_model.specs.Findings.{Relation, Apart, Boxless, Chained, is_apart, relation, unseen, seen_at, found, finding, root_origin}
-use Rattle.clip_chain.specs.declared.spot.Spot.{Spot}
+use Rattle.element_tree.specs.declared.container.Container.{Container}
 use Rattle.clip_chain.specs.Scenes.{root_bounds}
 use Rattle.clip_chain.specs.Visible.{part_between}
 use Rattle.clip_chain.specs.Worlds.{scene_of, scene_for, element_spot, spot_of_root}
@@ -52,7 +51,7 @@ moved_whole : (thresholds : List ℕ) (at : Point) (root box : Rect) (cut : Opti
 moved_whole thresholds at root box cut =
     ap (λ (part : Rect). record (seen thresholds box cut root) { bounds = moved_back at box; cut = part }) (cut_moved at cut)
 
-by_case : (shown : Shown) (margins : Margins) (observer : IntersectionObserver) (target : ℕ) (between : List Spot) (r : Relation) → (r ≡ Chained → has_box shown target ≡ true) → IfChained (standing_in r) (IsChain shown observer.root target between)
+by_case : (shown : Shown) (margins : Margins) (observer : IntersectionObserver) (target : ℕ) (between : List Container) (r : Relation) → (r ≡ Chained → has_box shown target ≡ true) → IfChained (standing_in r) (IsChain shown observer.root target between)
     → found shown margins observer target (moved_back (root_origin shown observer.root) (root_rect shown observer.root observer.margins)) r ≡ told shown observer target r (finding_over (scene_for shown observer.root margins) (standing_in r) observer target between)
 by_case shown margins observer target between Apart boxed chain =
     ap (λ (limits : Rect). unseen 0 (moved_back (root_origin shown observer.root) limits)) (sym (same_limits shown margins observer))
@@ -68,7 +67,7 @@ by_case shown margins observer target between Chained boxed chain =
     moved_whole observer.thresholds from (moved_back (root_origin shown observer.root) limits) (border_rect shown target) (common_part (border_rect shown target) (limits ∷ clips_for shown margins observer.root target))
     ∙ sym (λ i. told shown observer target Chained (seen observer.thresholds (bounds i) (part i) (same_limits shown margins observer i)))
 
-pub world_finding : (shown : Shown) (margins : Margins) (observer : IntersectionObserver) (target : ℕ) (between : List Spot) → IfChained (standing_in (relation shown observer.root target)) (IsChain shown observer.root target between)
+pub world_finding : (shown : Shown) (margins : Margins) (observer : IntersectionObserver) (target : ℕ) (between : List Container) → IfChained (standing_in (relation shown observer.root target)) (IsChain shown observer.root target between)
     → finding shown margins observer target ≡ told shown observer target (relation shown observer.root target) (finding_over (scene_for shown observer.root margins) (standing_in (relation shown observer.root target)) observer target between)
 unfolding finding
 world_finding shown margins observer target between chain =

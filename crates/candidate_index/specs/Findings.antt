@@ -6,7 +6,7 @@ use Rattle.px_units.specs.Rects.{meeting}
 use Rattle.page_model.specs.World.{Finding, IntersectionObserver}
 use Rattle.page_model.specs.Chains.{zero_rect, moved_out}
 use Rattle.page_model.specs.Findings.{index_of, ratio_of, unseen}
-use Rattle.clip_chain.specs.declared.spot.Spot.{Spot}
+use Rattle.element_tree.specs.declared.container.Container.{Container}
 use Rattle.clip_chain.specs.Scenes.{Scene, root_bounds}
 use Rattle.clip_chain.specs.Visible.{part_between}
 use Rattle.clip_chain.specs.Worlds.{element_spot, spot_of_root}
@@ -38,7 +38,7 @@ seen thresholds bounds cut limits =
     }
 
 -- what an observer finds of a target, by how it stands to the root and the spots strictly between
-abbrev pub finding_over : Scene → Standing → IntersectionObserver → ℕ → List Spot → Finding
+abbrev pub finding_over : Scene → Standing → IntersectionObserver → ℕ → List Container → Finding
 finding_over scene standings.Apart observer target between = unseen 0 (limits_of scene observer)
 finding_over scene standings.NoBox observer target between = unseen (index_of observer.thresholds 0 1) (limits_of scene observer)
 finding_over scene standings.Chained observer target between =
@@ -50,12 +50,12 @@ finding_over scene standings.Chained observer target between =
 
 -- what it is found from
 
-abbrev pub sight_over : Scene → Standing → ℕ → List Spot → Sight
+abbrev pub sight_over : Scene → Standing → ℕ → List Container → Sight
 sight_over scene standings.Apart target between = sights.Apart
 sight_over scene standings.NoBox target between = sights.NoBox
 sight_over scene standings.Chained target between = sights.Chained (scene.bounds (element_spot target)) (clip_between scene between)
 
-abbrev pub basis_over : Scene → Standing → IntersectionObserver → ℕ → List Spot → Basis
+abbrev pub basis_over : Scene → Standing → IntersectionObserver → ℕ → List Container → Basis
 basis_over scene standing observer target between = record { limits = limits_of scene observer; sight = sight_over scene standing target between }
 
 -- what a clip leaves of a rectangle

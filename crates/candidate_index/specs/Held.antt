@@ -5,7 +5,7 @@ use Rattle.std.specs.FinMap.{FinMap, get, contains_key}
 use Rattle.candidate_index.specs.declared.basis.Basis.{Basis}
 use Rattle.candidate_index.specs.declared.index.Kept.{Kept}
 use Rattle.page_model.specs.World.{Root, IntersectionObservers}
-use Rattle.clip_chain.specs.declared.spot.Spot.{Spot}
+use Rattle.element_tree.specs.declared.container.Container.{Container}
 use Rattle.clip_chain.specs.Scenes.{Scene}
 use Rattle.candidate_index.specs.declared.scene.Standing.{Standing}
 use Rattle.candidate_index.specs.Bases.{is_same_basis}
@@ -26,7 +26,7 @@ is_stale None now = true
 is_stale (Some kept) now = not (is_same_basis kept.basis now)
 
 -- whether the registration of a serial number is stale now, by the spots between its target and its root
-abbrev pub is_stale_now : Scene → (Root → ℕ → Standing) → IntersectionObservers → (ℕ → List Spot) → FinMap nat_cmp (Option Kept) → ℕ → Bool
+abbrev pub is_stale_now : Scene → (Root → ℕ → Standing) → IntersectionObservers → (ℕ → List Container) → FinMap nat_cmp (Option Kept) → ℕ → Bool
 is_stale_now scene standings it between kept serial = is_stale (kept_of kept serial) (basis_for scene standings it serial (between serial))
 
 -- what is kept of the last computation was found from its basis by these thresholds

@@ -2,7 +2,7 @@
 use Rattle.std.specs.Prelude.{◌≡◌, ℕ, false, List, map, unwrap_or}
 use Rattle.page_model.specs.World.{Root, Finding, Registration, IntersectionObserver, IntersectionObservers}
 use Rattle.page_model.specs.Lookups.{intersection_observer_at}
-use Rattle.clip_chain.specs.declared.spot.Spot.{Spot}
+use Rattle.element_tree.specs.declared.container.Container.{Container}
 use Rattle.clip_chain.specs.Scenes.{Scene}
 use Rattle.clip_chain.specs.Chains.{Leads, IsAbove}
 use Rattle.clip_chain.specs.Worlds.{element_spot, spot_of_root}
@@ -35,10 +35,10 @@ target_of it serial = (place_of it serial).target
 abbrev pub standing_for : (Root → ℕ → Standing) → IntersectionObservers → ℕ → Standing
 standing_for standings it serial = standings (observer_of it serial).root (target_of it serial)
 
-abbrev pub basis_for : Scene → (Root → ℕ → Standing) → IntersectionObservers → ℕ → List Spot → Basis
+abbrev pub basis_for : Scene → (Root → ℕ → Standing) → IntersectionObservers → ℕ → List Container → Basis
 basis_for scene standings it serial between = basis_over scene (standing_for standings it serial) (observer_of it serial) (target_of it serial) between
 
-abbrev pub finding_for : Scene → (Root → ℕ → Standing) → IntersectionObservers → ℕ → List Spot → Finding
+abbrev pub finding_for : Scene → (Root → ℕ → Standing) → IntersectionObservers → ℕ → List Container → Finding
 finding_for scene standings it serial between = finding_over scene (standing_for standings it serial) (observer_of it serial) (target_of it serial) between
 
 abbrev pub IfChained : Standing → Type 0 → Type 0
@@ -47,7 +47,7 @@ IfChained NoBox fact = Unit {0}
 IfChained Chained fact = fact
 
 -- the spots strictly between the target and the root, for a registration whose chain leads to the root
-abbrev pub IsBetween : Scene → (Root → ℕ → Standing) → IntersectionObservers → (ℕ → List Spot) → ℕ → Type 0
+abbrev pub IsBetween : Scene → (Root → ℕ → Standing) → IntersectionObservers → (ℕ → List Container) → ℕ → Type 0
 IsBetween scene standings it between serial =
     IfChained (standing_for standings it serial)
     (Leads scene (element_spot (target_of it serial)) (between serial) (spot_of_root (observer_of it serial).root))

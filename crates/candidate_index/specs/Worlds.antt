@@ -7,7 +7,7 @@ use Rattle.page_model.specs.Shown.{Shown}
 use Rattle.page_model.specs.World.{Root, Finding, IntersectionObserver}
 use Rattle.page_model.specs.Chains.{moved_back, origin_of_element, most_containers}
 use Rattle.page_model.specs.Findings.{Relation, Apart, Boxless, Chained, root_origin}
-use Rattle.clip_chain.specs.declared.spot.Spot.{Spot}
+use Rattle.element_tree.specs.declared.container.Container.{Container}
 use Rattle.clip_chain.specs.Chains.{Leads}
 use Rattle.clip_chain.specs.Worlds.{scene_of, element_spot, spot_of_root}
 use Rattle.candidate_index.specs.declared.scene.Standing.{Standing}
@@ -35,5 +35,5 @@ told shown observer target relation it = record it {
 }
 
 -- a chain from a target to a root, no longer than a world's definitions look along
-abbrev pub IsChain : Shown → Root → ℕ → List Spot → Type 0
+abbrev pub IsChain : Shown → Root → ℕ → List Container → Type 0
 IsChain shown root target between = Leads (scene_of shown) (element_spot target) between (spot_of_root root) × (length between ≤ most_containers)

@@ -4,7 +4,7 @@ ghost use Rattle.std.specs.Prelude.{◌≡◌, ◌+◌, ℕ, List, false, IfSome
 ghost use Rattle.page_model.specs.World.{Root as ModelRoot};
 ghost use Rattle.page_model.specs.Chains.{moved_out};
 ghost use Rattle.page_model.specs.Findings.{unseen};
-ghost use Rattle.clip_chain.specs.declared.spot.Spot.{Spot as SpotOf};
+ghost use Rattle.element_tree.specs.declared.container.Container.{Container as ContainerOf};
 ghost use Rattle.clip_chain.specs.Ranges.{IsBounds};
 ghost use Rattle.clip_chain.specs.Scenes.{root_bounds};
 ghost use Rattle.clip_chain.specs.Chains.{Leads};
@@ -20,8 +20,8 @@ ghost use Rattle.candidate_index.specs.Registrations.{observer_of, basis_for, If
 ghost use Rattle.candidate_index.specs.Asked.{asked_if, steps_if, asked_for, steps_for};
 
 use crate::{Basis, Scene, Sight, Standing};
-use clip_chain::{Geometry, Spot, root_rect};
-use element_tree::{DocumentId, NodeId};
+use clip_chain::{Geometry, root_rect};
+use element_tree::{Container, DocumentId, NodeId};
 use intersection_observer::{Finding, RegistrationId, Root, Watchers};
 use kept_clips::{Clip, Clips};
 use px_units::{Rect, meet};
@@ -37,13 +37,13 @@ const NO_RECT: Rect = Rect {
 };
 
 /// The spot of a root (Intersection Observer, 2.2): the implicit one is the viewport of the top document.
-pub fn spot_of_root(root: Root) -> Spot
+pub fn spot_of_root(root: Root) -> Container
     ensures { result ≡ spot_of_root (seen_root root) }
 {
     match root {
-        Root::Implicit => Spot::View(DocumentId(0)),
-        Root::Document(document) => Spot::View(document),
-        Root::Node(node) => Spot::Node(node),
+        Root::Implicit => Container::Document(DocumentId(0)),
+        Root::Document(document) => Container::Document(document),
+        Root::Node(node) => Container::Element(node),
     }
 }
 
@@ -66,11 +66,11 @@ fn sight_of<S: Scene, L: Ledger>(
     steps: &mut Steps<L>,
 ) -> Sight
     requires { IfChained (S.standings scene.now (seen_root root) target.0) (HasClip (S.scene scene.now) clips.old serial (seen_root root) target.0) }
-    ensures sight { (between : List SpotOf) → IfChained (S.standings scene.now (seen_root root) target.0) (Leads (S.scene scene.now) (element_spot target.0) between (spot_of_root (seen_root root))) →
+    ensures sight { (between : List ContainerOf) → IfChained (S.standings scene.now (seen_root root) target.0) (Leads (S.scene scene.now) (element_spot target.0) between (spot_of_root (seen_root root))) →
         result ≡ sight_over (S.scene scene.now) (S.standings scene.now (seen_root root) target.0) target.0 between }
-    ensures clips { (between : List SpotOf) → IfChained (S.standings scene.now (seen_root root) target.0) (Leads (S.scene scene.now) (element_spot target.0) between (spot_of_root (seen_root root))) →
+    ensures clips { (between : List ContainerOf) → IfChained (S.standings scene.now (seen_root root) target.0) (Leads (S.scene scene.now) (element_spot target.0) between (spot_of_root (seen_root root))) →
         clips.new ≡ asked_if (S.standings scene.now (seen_root root) target.0) (S.scene scene.now) between serial clips.old }
-    ensures ticks { (between : List SpotOf) → IfChained (S.standings scene.now (seen_root root) target.0) (Leads (S.scene scene.now) (element_spot target.0) between (spot_of_root (seen_root root))) →
+    ensures ticks { (between : List ContainerOf) → IfChained (S.standings scene.now (seen_root root) target.0) (Leads (S.scene scene.now) (element_spot target.0) between (spot_of_root (seen_root root))) →
         steps.new ≡ steps.old + steps_if (S.standings scene.now (seen_root root) target.0) between serial clips.old }
     ensures ready { (other : ℕ) (its_root : ModelRoot) (its_target : ℕ) → HasClip (S.scene scene.now) clips.old other its_root its_target → HasClip (S.scene scene.now) clips.new other its_root its_target }
     ensures exact { (other : ℕ) → IsExact (S.scene scene.now) clips.old other → IsExact (S.scene scene.now) clips.new other }
@@ -80,7 +80,7 @@ fn sight_of<S: Scene, L: Ledger>(
         Standing::Apart => Sight::Apart,
         Standing::NoBox => Sight::NoBox,
         Standing::Chained => Sight::Chained {
-            bounds: scene.bounds(Spot::Node(target)),
+            bounds: scene.bounds(Container::Element(target)),
             clip: clips.clip_of(scene, serial, steps),
         },
     }
@@ -97,11 +97,11 @@ pub(crate) fn basis_of<S: Scene, L: Ledger>(
     requires standing { IsStanding registration.0 watchers.now.part }
     requires ready { IsReady (S.scene scene.now) (S.standings scene.now) watchers.now.part clips.old registration.0 }
     requires unmoved { IsRootUnmoved (S.scene scene.now) watchers.now.part registration.0 }
-    ensures basis { (between : ℕ → List SpotOf) → IsBetween (S.scene scene.now) (S.standings scene.now) watchers.now.part between registration.0 →
+    ensures basis { (between : ℕ → List ContainerOf) → IsBetween (S.scene scene.now) (S.standings scene.now) watchers.now.part between registration.0 →
         result ≡ basis_for (S.scene scene.now) (S.standings scene.now) watchers.now.part registration.0 (between registration.0) }
-    ensures clips { (between : ℕ → List SpotOf) → IsBetween (S.scene scene.now) (S.standings scene.now) watchers.now.part between registration.0 →
+    ensures clips { (between : ℕ → List ContainerOf) → IsBetween (S.scene scene.now) (S.standings scene.now) watchers.now.part between registration.0 →
         clips.new ≡ asked_for (S.scene scene.now) (S.standings scene.now) watchers.now.part between registration.0 clips.old }
-    ensures ticks { (between : ℕ → List SpotOf) → IsBetween (S.scene scene.now) (S.standings scene.now) watchers.now.part between registration.0 →
+    ensures ticks { (between : ℕ → List ContainerOf) → IsBetween (S.scene scene.now) (S.standings scene.now) watchers.now.part between registration.0 →
         steps.new ≡ steps.old + steps_for (S.scene scene.now) (S.standings scene.now) watchers.now.part between registration.0 clips.old }
     ensures ready { (other : ℕ) → IsReady (S.scene scene.now) (S.standings scene.now) watchers.now.part clips.old other → IsReady (S.scene scene.now) (S.standings scene.now) watchers.now.part clips.new other }
     ensures exact { (other : ℕ) → IsExact (S.scene scene.now) clips.old other → IsExact (S.scene scene.now) clips.new other }

@@ -3,7 +3,7 @@
 ghost use Rattle.std.specs.Prelude.{◌≡◌, ◌+◌, ◌<◌, ◌≤◌, ℕ, List, true, [], ◌∷◌, ◌++◌, length, filter, None, vec_len, vec_capacity, IfOk, IsOk, OnOk, OnErr};
 ghost use Rattle.std.specs.List.{All};
 ghost use Rattle.std.specs.FinMap as finite;
-ghost use Rattle.clip_chain.specs.declared.spot.Spot.{Spot as SpotOf};
+ghost use Rattle.element_tree.specs.declared.container.Container.{Container as ContainerOf};
 ghost use Rattle.intersection_observer.specs.Places.{IsStanding};
 ghost use Rattle.intersection_observer.specs.Seen.{seen_finding, serial_numbers};
 ghost use Rattle.kept_clips.specs.Chains.{IsExact};
@@ -134,12 +134,12 @@ impl Index {
         requires made { watcher.0 < length watchers.now.part.made }
         requires ready { All (IsReady (S.scene scene.now) (S.standings scene.now) watchers.now.part clips.old) (serials_at watchers.now.part watcher.0) }
         requires unmoved { All (IsRootUnmoved (S.scene scene.now) watchers.now.part) (serials_at watchers.now.part watcher.0) }
-        ensures stale { (between : ℕ → List SpotOf) → All (IsBetween (S.scene scene.now) (S.standings scene.now) watchers.now.part between) (serials_at watchers.now.part watcher.0) →
+        ensures stale { (between : ℕ → List ContainerOf) → All (IsBetween (S.scene scene.now) (S.standings scene.now) watchers.now.part between) (serials_at watchers.now.part watcher.0) →
             IfOk result (λ stale. serial_numbers stale.items
             ≡ filter (is_stale_now (S.scene scene.now) (S.standings scene.now) watchers.now.part between self.now) (serials_at watchers.now.part watcher.0)) }
-        ensures clips { (between : ℕ → List SpotOf) → All (IsBetween (S.scene scene.now) (S.standings scene.now) watchers.now.part between) (serials_at watchers.now.part watcher.0) →
+        ensures clips { (between : ℕ → List ContainerOf) → All (IsBetween (S.scene scene.now) (S.standings scene.now) watchers.now.part between) (serials_at watchers.now.part watcher.0) →
             OnOk result (clips.new ≡ all_asked (S.scene scene.now) (S.standings scene.now) watchers.now.part between (serials_at watchers.now.part watcher.0) clips.old) }
-        ensures ticks { (between : ℕ → List SpotOf) → All (IsBetween (S.scene scene.now) (S.standings scene.now) watchers.now.part between) (serials_at watchers.now.part watcher.0) →
+        ensures ticks { (between : ℕ → List ContainerOf) → All (IsBetween (S.scene scene.now) (S.standings scene.now) watchers.now.part between) (serials_at watchers.now.part watcher.0) →
             OnOk result (steps.new ≡ steps.old + all_steps (S.scene scene.now) (S.standings scene.now) watchers.now.part between (serials_at watchers.now.part watcher.0) clips.old) }
         ensures ready { (other : ℕ) → IsReady (S.scene scene.now) (S.standings scene.now) watchers.now.part clips.old other → IsReady (S.scene scene.now) (S.standings scene.now) watchers.now.part clips.new other }
         ensures exact { (other : ℕ) → IsExact (S.scene scene.now) clips.old other → IsExact (S.scene scene.now) clips.new other }
@@ -168,11 +168,11 @@ impl Index {
         requires ready { IsReady (S.scene scene.now) (S.standings scene.now) watchers.now.part clips.old registration.0 }
         requires unmoved { IsRootUnmoved (S.scene scene.now) watchers.now.part registration.0 }
         requires room { vec_len stale.old < vec_capacity stale.old }
-        ensures stale { (between : ℕ → List SpotOf) → IsBetween (S.scene scene.now) (S.standings scene.now) watchers.now.part between registration.0 →
+        ensures stale { (between : ℕ → List ContainerOf) → IsBetween (S.scene scene.now) (S.standings scene.now) watchers.now.part between registration.0 →
             serial_numbers stale.new.items ≡ serial_numbers stale.old.items ++ filter (is_stale_now (S.scene scene.now) (S.standings scene.now) watchers.now.part between self.now) (registration.0 ∷ []) }
-        ensures clips { (between : ℕ → List SpotOf) → IsBetween (S.scene scene.now) (S.standings scene.now) watchers.now.part between registration.0 →
+        ensures clips { (between : ℕ → List ContainerOf) → IsBetween (S.scene scene.now) (S.standings scene.now) watchers.now.part between registration.0 →
             clips.new ≡ asked_for (S.scene scene.now) (S.standings scene.now) watchers.now.part between registration.0 clips.old }
-        ensures ticks { (between : ℕ → List SpotOf) → IsBetween (S.scene scene.now) (S.standings scene.now) watchers.now.part between registration.0 →
+        ensures ticks { (between : ℕ → List ContainerOf) → IsBetween (S.scene scene.now) (S.standings scene.now) watchers.now.part between registration.0 →
             steps.new ≡ steps.old + steps_for (S.scene scene.now) (S.standings scene.now) watchers.now.part between registration.0 clips.old }
         ensures ready { (other : ℕ) → IsReady (S.scene scene.now) (S.standings scene.now) watchers.now.part clips.old other → IsReady (S.scene scene.now) (S.standings scene.now) watchers.now.part clips.new other }
         ensures exact { (other : ℕ) → IsExact (S.scene scene.now) clips.old other → IsExact (S.scene scene.now) clips.new other }
@@ -212,13 +212,13 @@ impl Index {
         requires added { IsAdded self.old registration.0 }
         requires ready { IsReady (S.scene scene.now) (S.standings scene.now) watchers.now.part clips.old registration.0 }
         requires unmoved { IsRootUnmoved (S.scene scene.now) watchers.now.part registration.0 }
-        ensures finding { (between : ℕ → List SpotOf) → IsBetween (S.scene scene.now) (S.standings scene.now) watchers.now.part between registration.0 →
+        ensures finding { (between : ℕ → List ContainerOf) → IsBetween (S.scene scene.now) (S.standings scene.now) watchers.now.part between registration.0 →
             seen_finding result ≡ finding_for (S.scene scene.now) (S.standings scene.now) watchers.now.part registration.0 (between registration.0) }
-        ensures kept { (between : ℕ → List SpotOf) → IsBetween (S.scene scene.now) (S.standings scene.now) watchers.now.part between registration.0 →
+        ensures kept { (between : ℕ → List ContainerOf) → IsBetween (S.scene scene.now) (S.standings scene.now) watchers.now.part between registration.0 →
             self.new ≡ finite.insert self.old registration.0 (Some (record { basis = basis_for (S.scene scene.now) (S.standings scene.now) watchers.now.part registration.0 (between registration.0); finding = result })) }
-        ensures clips { (between : ℕ → List SpotOf) → IsBetween (S.scene scene.now) (S.standings scene.now) watchers.now.part between registration.0 →
+        ensures clips { (between : ℕ → List ContainerOf) → IsBetween (S.scene scene.now) (S.standings scene.now) watchers.now.part between registration.0 →
             clips.new ≡ asked_for (S.scene scene.now) (S.standings scene.now) watchers.now.part between registration.0 clips.old }
-        ensures ticks { (between : ℕ → List SpotOf) → IsBetween (S.scene scene.now) (S.standings scene.now) watchers.now.part between registration.0 →
+        ensures ticks { (between : ℕ → List ContainerOf) → IsBetween (S.scene scene.now) (S.standings scene.now) watchers.now.part between registration.0 →
             steps.new ≡ steps.old + steps_for (S.scene scene.now) (S.standings scene.now) watchers.now.part between registration.0 clips.old + 1 }
         ensures ready { (other : ℕ) → IsReady (S.scene scene.now) (S.standings scene.now) watchers.now.part clips.old other → IsReady (S.scene scene.now) (S.standings scene.now) watchers.now.part clips.new other }
         ensures exact { (other : ℕ) → IsExact (S.scene scene.now) clips.old other → IsExact (S.scene scene.now) clips.new other }

@@ -9,7 +9,7 @@ ghost use Rattle.page_model.specs.Shown.{Shown};
 ghost use Rattle.page_model.specs.World.{Root, IntersectionObserver, IntersectionObservers};
 ghost use Rattle.page_model.specs.Findings.{relation, finding};
 ghost use Rattle.clip_chain.specs.Worlds.{scene_for};
-ghost use Rattle.clip_chain.specs.declared.spot.Spot.{Spot as SpotOf};
+ghost use Rattle.element_tree.specs.declared.container.Container.{Container as ContainerOf};
 ghost use Rattle.clip_chain.specs.Scenes.{Scene as SceneOf};
 ghost use Rattle.intersection_observer.specs.Seen.{seen_finding};
 ghost use Rattle.candidate_index.specs.declared.scene.Standing.{Standing as StandingOf};
@@ -25,7 +25,7 @@ ghost use Rattle.candidate_index.specs.Worlds.{standing_in, told, IsChain};
 /// is what is found of it now.
 pub fn what_is_not_stale_is_found_as_it_was()
     ensures same { (one other : BasisOf) → (is_same_basis one other ≡ true) ↔ (one ≡ other) }
-    ensures found { (scene : SceneOf) (standings : Root → ℕ → StandingOf) (it : IntersectionObservers) (between : ℕ → List SpotOf) (kept : FinMap nat_cmp (Option KeptOf)) (serial : ℕ) →
+    ensures found { (scene : SceneOf) (standings : Root → ℕ → StandingOf) (it : IntersectionObservers) (between : ℕ → List ContainerOf) (kept : FinMap nat_cmp (Option KeptOf)) (serial : ℕ) →
         AreFound it kept → is_stale_now scene standings it between kept serial ≡ false →
         IsSome (kept_of kept serial) × IfSome (kept_of kept serial) (λ last. seen_finding last.finding ≡ finding_for scene standings it serial (between serial)) }
 {}
@@ -34,7 +34,7 @@ pub fn what_is_not_stale_is_found_as_it_was()
 /// target lies to the root is the world's finding, once the target's box and what is seen of it are told in the coordinates of the
 /// target's document, and the root rectangle in those of the root's.
 pub fn findings_are_those_of_any_world()
-    ensures { (shown : Shown) (margins : Margins) (observer : IntersectionObserver) (target : ℕ) (between : List SpotOf) →
+    ensures { (shown : Shown) (margins : Margins) (observer : IntersectionObserver) (target : ℕ) (between : List ContainerOf) →
         IfChained (standing_in (relation shown observer.root target)) (IsChain shown observer.root target between) →
         finding shown margins observer target ≡ told shown observer target (relation shown observer.root target) (finding_over (scene_for shown observer.root margins) (standing_in (relation shown observer.root target)) observer target between) }
 {}

@@ -4,49 +4,49 @@ use Rattle.std.proofs.lemmas.Bool.{eqb-true, eq-eqb, false≢true}
 use Rattle.px_units.specs.declared.Rect.{Rect}
 use Rattle.script_model.specs.Margins.{Margins}
 use Rattle.page_model.specs.Chains.{moved_out}
-use Rattle.clip_chain.specs.declared.spot.Spot.{Spot}
-use Rattle.clip_chain.specs.declared.spot.Spot.TheVariants.{Node, View}
+use Rattle.element_tree.specs.declared.container.Container.{Container}
+use Rattle.element_tree.specs.declared.container.Container.TheVariants.{Element, Document}
 use Rattle.clip_chain.specs.Scenes.{Scene, is_spot, through, root_bounds}
 use Rattle.thresholds.specs.Roots.{IsRootRect}
 use Rattle.clip_chain.specs.Ranges.{IsClip}
 use Rattle.clip_chain.specs.Chains.{Leads, IsAbove}
 
-pub is_itself : (spot : Spot) → is_spot spot spot ≡ true
-is_itself (Node a) = eq-eqb a.0 a.0 refl
-is_itself (View a) = eq-eqb a.0 a.0 refl
+pub is_itself : (spot : Container) → is_spot spot spot ≡ true
+is_itself (Element a) = eq-eqb a.0 a.0 refl
+is_itself (Document a) = eq-eqb a.0 a.0 refl
 
-pub is_same : (a b : Spot) → is_spot a b ≡ true → b ≡ a
-is_same (Node a) (Node b) e = ap (λ n. Node (record { 0 = n })) (eqb-true b.0 a.0 e)
-is_same (View a) (View b) e = ap (λ n. View (record { 0 = n })) (eqb-true b.0 a.0 e)
-is_same (Node a) (View b) e = absurd (false≢true e)
-is_same (View a) (Node b) e = absurd (false≢true e)
+pub is_same : (a b : Container) → is_spot a b ≡ true → b ≡ a
+is_same (Element a) (Element b) e = ap (λ n. Element (record { 0 = n })) (eqb-true b.0 a.0 e)
+is_same (Document a) (Document b) e = ap (λ n. Document (record { 0 = n })) (eqb-true b.0 a.0 e)
+is_same (Element a) (Document b) e = absurd (false≢true e)
+is_same (Document a) (Element b) e = absurd (false≢true e)
 
 and_not_true : (b : Bool) → (b && not true) ≡ false
 and_not_true true = refl
 and_not_true false = refl
 
 -- the root isn't moved
-pub root_unmoved : (scene : Scene) (margins : Margins) (root : Spot) → (through root margins scene).moved root ≡ false
+pub root_unmoved : (scene : Scene) (margins : Margins) (root : Container) → (through root margins scene).moved root ≡ false
 root_unmoved scene margins root = ap (λ b. scene.scrolls root && not b) (is_itself root) ∙ and_not_true (scene.scrolls root)
 
-pub root_through : (scene : Scene) (margins : Margins) (root : Spot) → root_bounds (through root margins scene) root ≡ root_bounds scene root
+pub root_through : (scene : Scene) (margins : Margins) (root : Container) → root_bounds (through root margins scene) root ≡ root_bounds scene root
 root_through scene margins root =
     ap (λ b. unwrap_or (cond b (option_map (moved_out margins) (scene.clip root)) (scene.clip root)) (scene.bounds root)) (root_unmoved scene margins root)
 
 -- chains are the same
-module _ (scene : Scene) (margins : Margins) (seen_from : Spot) where
-  pub leads_through : (from root : Spot) (between : List Spot) → Leads scene from between root → Leads (through seen_from margins scene) from between root
+module _ (scene : Scene) (margins : Margins) (seen_from : Container) where
+  pub leads_through : (from root : Container) (between : List Container) → Leads scene from between root → Leads (through seen_from margins scene) from between root
   leads_through from root [] lead = lead
   leads_through from root (next ∷ between) lead = (lead.0, lead.1, leads_through next root between lead.2)
 
-  pub leads_back : (from root : Spot) (between : List Spot) → Leads (through seen_from margins scene) from between root → Leads scene from between root
+  pub leads_back : (from root : Container) (between : List Container) → Leads (through seen_from margins scene) from between root → Leads scene from between root
   leads_back from root [] lead = lead
   leads_back from root (next ∷ between) lead = (lead.0, lead.1, leads_back next root between lead.2)
 
-  pub above_through : (from root : Spot) → IsAbove scene root from → IsAbove (through seen_from margins scene) root from
+  pub above_through : (from root : Container) → IsAbove scene root from → IsAbove (through seen_from margins scene) root from
   above_through from root above = (above.0, leads_through from root above.0 above.1)
 
-  pub above_back : (from root : Spot) → IsAbove (through seen_from margins scene) root from → IsAbove scene root from
+  pub above_back : (from root : Container) → IsAbove (through seen_from margins scene) root from → IsAbove scene root from
   above_back from root above = (above.0, leads_back from root above.0 above.1)
 
 -- what margins move is in the range of what they move

@@ -1,14 +1,14 @@
 -- Chains of containers, from a spot outwards (Intersection Observer, 3.2.7).
 use Rattle.std.specs.Prelude.{◌≡◌, List, [], ◌∷◌, Some}
-use Rattle.clip_chain.specs.declared.spot.Spot.{Spot}
+use Rattle.element_tree.specs.declared.container.Container.{Container}
 use Rattle.clip_chain.specs.Scenes.{Scene}
 
 -- the root is where a chain from a spot comes to first after these spots: each of them, and then the root, is the container of
 -- the one before, and none of them is the root
-abbrev pub Leads : Scene → Spot → List Spot → Spot → Type 0
+abbrev pub Leads : Scene → Container → List Container → Container → Type 0
 Leads scene from [] root = scene.container from ≡ Some root
 Leads scene from (next ∷ others) root = (scene.container from ≡ Some next) × (¬ next ≡ root) × Leads scene next others root
 
 -- the root is on the chain above a spot
-abbrev pub IsAbove : Scene → Spot → Spot → Type 0
-IsAbove scene root from = (between : List Spot) × Leads scene from between root
+abbrev pub IsAbove : Scene → Container → Container → Type 0
+IsAbove scene root from = (between : List Container) × Leads scene from between root

@@ -4,25 +4,25 @@ use Rattle.std.specs.Prelude.{Bool, false, cond, not, ◌&&◌, ◌==◌, Option
 use Rattle.px_units.specs.declared.Rect.{Rect}
 use Rattle.script_model.specs.Margins.{Margins}
 use Rattle.page_model.specs.Chains.{moved_out}
-use Rattle.clip_chain.specs.declared.spot.Spot.{Spot}
-use Rattle.clip_chain.specs.declared.spot.Spot.TheVariants.{Node, View}
+use Rattle.element_tree.specs.declared.container.Container.{Container}
+use Rattle.element_tree.specs.declared.container.Container.TheVariants.{Element, Document}
 
 -- what each spot stands in, what it clips its content to, its own box, whether it is a scroll container, and whether its clip was moved
 pub record Scene : Type 0 where
-  pub container : Spot → Option Spot
-  pub clip : Spot → Option Rect
-  pub bounds : Spot → Rect
-  pub scrolls : Spot → Bool
-  pub moved : Spot → Bool
+  pub container : Container → Option Container
+  pub clip : Container → Option Rect
+  pub bounds : Container → Rect
+  pub scrolls : Container → Bool
+  pub moved : Container → Bool
 
-abbrev pub is_spot : Spot → Spot → Bool
-is_spot (Node a) (Node b) = b.0 == a.0
-is_spot (View a) (View b) = b.0 == a.0
+abbrev pub is_spot : Container → Container → Bool
+is_spot (Element a) (Element b) = b.0 == a.0
+is_spot (Document a) (Document b) = b.0 == a.0
 is_spot a b = false
 
 -- the same as an observer with this root and these scroll margins sees it: they move the clip of each scroll container but the root
 -- outward (Intersection Observer, 2.2: scrollMargin)
-abbrev pub through : Spot → Margins → Scene → Scene
+abbrev pub through : Container → Margins → Scene → Scene
 through root margins scene = record scene {
   clip = λ of. cond (scene.scrolls of && not (is_spot root of)) (option_map (moved_out margins) (scene.clip of)) (scene.clip of);
   moved = λ of. scene.scrolls of && not (is_spot root of);
@@ -30,5 +30,5 @@ through root margins scene = record scene {
 
 -- the root rectangle before a margin moves it (Intersection Observer, 2.2): the clip of a root that clips its content, which
 -- is the viewport of a document and the padding box of an element, else the box of the root
-abbrev pub root_bounds : Scene → Spot → Rect
+abbrev pub root_bounds : Scene → Container → Rect
 root_bounds scene root = unwrap_or (scene.clip root) (scene.bounds root)

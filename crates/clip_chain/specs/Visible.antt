@@ -5,15 +5,15 @@ use Rattle.std.specs.List.{All}
 use Rattle.px_units.specs.declared.Rect.{Rect}
 use Rattle.px_units.specs.Rects.{Holds}
 use Rattle.page_model.specs.Chains.{common_part}
-use Rattle.clip_chain.specs.declared.spot.Spot.{Spot}
+use Rattle.element_tree.specs.declared.container.Container.{Container}
 use Rattle.clip_chain.specs.Scenes.{Scene}
 
 -- the common part of a target's box, limits, and the clips of the spots strictly between
-abbrev pub part_between : Scene → Spot → List Spot → Rect → Option Rect
+abbrev pub part_between : Scene → Container → List Container → Rect → Option Rect
 part_between scene target between limits = common_part (scene.bounds target) (limits ∷ filter_map (scene.clip) between)
 
 -- a point of the target's box that lies within the limits and within what each spot strictly between clips to, if it clips
-pub record IsSeen (scene : Scene) (target : Spot) (between : List Spot) (limits : Rect) (x y : ℤ) : Type 0 where
+pub record IsSeen (scene : Scene) (target : Container) (between : List Container) (limits : Rect) (x y : ℤ) : Type 0 where
   pub in_bounds : Holds (scene.bounds target) x y
   pub in_limits : Holds limits x y
-  pub in_clips : All (λ (spot : Spot). IfSome (scene.clip spot) (λ clip. Holds clip x y)) between
+  pub in_clips : All (λ (spot : Container). IfSome (scene.clip spot) (λ clip. Holds clip x y)) between

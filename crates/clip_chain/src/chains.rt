@@ -3,17 +3,18 @@
 ghost use Rattle.std.specs.Prelude.{◌≡◌, ◌↔◌, ◌⊎◌, ◌<◌, true, false, ℤ, List, ◌∷◌, filter_map, IfSome, IsTrue};
 ghost use Rattle.px_units.specs.Rects.{has_points, HeldBy};
 ghost use Rattle.page_model.specs.Chains.{common_part};
-ghost use Rattle.clip_chain.specs.declared.spot.Spot.{Spot as SpotOf};
+ghost use Rattle.element_tree.specs.declared.container.Container.{Container as ContainerOf};
 ghost use Rattle.clip_chain.specs.Ranges.{IsClip, IsBounds};
 ghost use Rattle.clip_chain.specs.Scenes.{root_bounds};
 ghost use Rattle.clip_chain.specs.Chains.{Leads, IsAbove};
 ghost use Rattle.clip_chain.specs.Visible.{part_between, IsSeen};
 
-use crate::{Geometry, Spot};
+use crate::Geometry;
+use element_tree::Container;
 use px_units::{Rect, meet};
 
 /// Whether the root is on the chain of containers above the target. No memory.
-pub fn reaches<G: Geometry>(geometry: &G, target: Spot, root: Spot) -> bool
+pub fn reaches<G: Geometry>(geometry: &G, target: Container, root: Container) -> bool
     ensures { IsTrue result ↔ IsAbove (G.scene geometry.now) root target }
 {
     let mut spot = target;
@@ -31,7 +32,7 @@ pub fn reaches<G: Geometry>(geometry: &G, target: Spot, root: Spot) -> bool
 /// the top document, its `View`. No memory.
 ///
 /// Each edge lies between -2^48 and 2^48, the width between -2^42 and 2^42, unless scroll margins moved it.
-pub fn root_rect<G: Geometry>(geometry: &G, root: Spot) -> Rect
+pub fn root_rect<G: Geometry>(geometry: &G, root: Container) -> Rect
     ensures root { result ≡ root_bounds (G.scene geometry.now) root }
     ensures range { (G.scene geometry.now).moved root ≡ false → IsClip result }
 {
@@ -49,13 +50,13 @@ pub fn root_rect<G: Geometry>(geometry: &G, root: Spot) -> Rect
 /// to 2^40.
 pub fn visible_rect<G: Geometry>(
     geometry: &G,
-    target: Spot,
-    root: Spot,
+    target: Container,
+    root: Container,
     limits: Rect,
 ) -> Option<Rect>
     requires { IsAbove (G.scene geometry.now) root target }
-    ensures part { (between : List SpotOf) → Leads (G.scene geometry.now) target between root → result ≡ part_between (G.scene geometry.now) target between limits }
-    ensures points { (between : List SpotOf) → Leads (G.scene geometry.now) target between root → (x y : ℤ) →
+    ensures part { (between : List ContainerOf) → Leads (G.scene geometry.now) target between root → result ≡ part_between (G.scene geometry.now) target between limits }
+    ensures points { (between : List ContainerOf) → Leads (G.scene geometry.now) target between root → (x y : ℤ) →
         HeldBy result x y ↔ IsSeen (G.scene geometry.now) target between limits x y }
     ensures range { IfSome result IsBounds }
 {
@@ -64,10 +65,15 @@ pub fn visible_rect<G: Geometry>(
 }
 
 // What the clips of the spots strictly between the target and the root leave of a rectangle.
-fn clipped_below<G: Geometry>(geometry: &G, target: Spot, root: Spot, first: Rect) -> Option<Rect>
+fn clipped_below<G: Geometry>(
+    geometry: &G,
+    target: Container,
+    root: Container,
+    first: Rect,
+) -> Option<Rect>
     requires above { IsAbove (G.scene geometry.now) root target }
     requires points { has_points first ≡ true }
-    ensures { (between : List SpotOf) → Leads (G.scene geometry.now) target between root →
+    ensures { (between : List ContainerOf) → Leads (G.scene geometry.now) target between root →
         result ≡ common_part first (filter_map (G.scene geometry.now).clip between) }
 {
     let mut common = first;
@@ -83,7 +89,11 @@ fn clipped_below<G: Geometry>(geometry: &G, target: Spot, root: Spot, first: Rec
 
 /// The container of a spot, None where that is the root or there is none. So a chain is walked outwards from a spot up to its root. No
 /// memory.
-pub fn container_below<G: Geometry>(geometry: &G, of: Spot, root: Spot) -> Option<Spot>
+pub fn container_below<G: Geometry>(
+    geometry: &G,
+    of: Container,
+    root: Container,
+) -> Option<Container>
     ensures next { IfSome result (λ next. ((G.scene geometry.now).container of ≡ Some next) × (¬ next ≡ root)) }
     ensures none { result ≡ None → ((G.scene geometry.now).container of ≡ None) ⊎ ((G.scene geometry.now).container of ≡ Some root) }
     ensures end { IfSome result (λ next. G.rank geometry.now next < G.rank geometry.now of) }

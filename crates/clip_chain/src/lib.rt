@@ -8,7 +8,6 @@
 mod chains;
 mod geometry;
 mod laws;
-mod spot;
 mod through;
 
 pub use chains::{container_below, reaches, root_rect, visible_rect};
@@ -17,5 +16,4 @@ pub use laws::{
     a_chain_goes_from_container_to_container, a_chain_is_the_only_one,
     chains_are_those_of_any_world, chains_with_scroll_margins_are_those_of_any_world,
 };
-pub use spot::Spot;
 pub use through::Through;

@@ -3,7 +3,8 @@
 ghost use Rattle.std.specs.Prelude.{◌≡◌, false};
 ghost use Rattle.clip_chain.specs.Scenes.{through};
 
-use crate::{Geometry, Scrolls, Spot};
+use crate::{Geometry, Scrolls};
+use element_tree::Container;
 use px_units::Rect;
 use thresholds::Margins;
 
@@ -12,13 +13,13 @@ use thresholds::Margins;
 #[derive(Drop)]
 pub struct Through<'a, G: Scrolls> {
     pub geometry: &'a G,
-    pub root: Spot,
+    pub root: Container,
     pub margins: Margins,
 }
 
 impl<G: Scrolls> Through<'_, G> {
     // Whether margins move the clip of a spot.
-    fn is_moved(&self, of: Spot) -> bool
+    fn is_moved(&self, of: Container) -> bool
         ensures moved { result ≡ (through self.now.root self.now.margins (G.scene self.now.geometry.now)).moved of }
         ensures before { (G.scene self.now.geometry.now).moved of ≡ false }
     {
@@ -33,11 +34,11 @@ impl<G: Scrolls> Geometry for Through<'_, G> {
 
     ghost rank = { λ it. G.rank it.geometry.now };
 
-    fn container(&self, of: Spot) -> Option<Spot> {
+    fn container(&self, of: Container) -> Option<Container> {
         self.geometry.container(of)
     }
 
-    fn clip(&self, of: Spot) -> Option<Rect> {
+    fn clip(&self, of: Container) -> Option<Rect> {
         let clip = self.geometry.clip(of)?;
         if self.is_moved(of) {
             Some(self.margins.dilate(clip))
@@ -46,7 +47,7 @@ impl<G: Scrolls> Geometry for Through<'_, G> {
         }
     }
 
-    fn bounds(&self, of: Spot) -> Rect {
+    fn bounds(&self, of: Container) -> Rect {
         self.geometry.bounds(of)
     }
 }

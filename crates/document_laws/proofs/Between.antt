@@ -1,8 +1,8 @@
 -- The trees between a removal and what an insertion ends with are as low.
 use Rattle.std.proofs.Common.{◌≡◌, ◌<◌, ℕ, length, Option, inl, refl, sym, subst, ◌∙◌}
-use Rattle.page_model.specs.World.{Element, Tree}
+use Rattle.page_model.specs.World.{Element, Tree, Container}
 use Rattle.page_model.specs.Lookups.{element_at, no_element}
-use Rattle.page_model.specs.Documents.{Container, inclusive_descendants, document_of_container, adopted, shown, inserted}
+use Rattle.page_model.specs.Documents.{inclusive_descendants, document_of_container, adopted, shown, inserted}
 use Rattle.page_model.specs.Steps.{Did}
 use Rattle.page_model.specs.Commands.{placing}
 use Rattle.page_documents.specs.Places.{IsThere}

@@ -10,9 +10,9 @@ use Rattle.layout_model.proofs.Ancestors.{down_path}
 use Rattle.layout_model.proofs.Holders.{holder_above, holder_less}
 use Rattle.layout_model.proofs.Inputs.{box_child, box_top, is_some_inputs}
 use Rattle.layout_model.proofs.Paths.{depth_least}
-use Rattle.page_model.specs.World.{Screen, Tree}
+use Rattle.page_model.specs.World.{Screen, Tree, Container, InElement, InDocument}
 use Rattle.page_model.specs.Lookups.{element_at, document_at}
-use Rattle.page_model.specs.Documents.{Container, InElement, InDocument, nodes_of, root_of, is_number, is_root_element, tree_document, is_active, stands_in_active, element_depth}
+use Rattle.page_model.specs.Documents.{nodes_of, root_of, is_number, is_root_element, tree_document, is_active, stands_in_active, element_depth}
 use Rattle.page_model.specs.PageBoxes.{framed_size, view_with, view_up, view_of, has_box}
 use Rattle.page_model.specs.Chains.{container_held, holding, container_beyond, containers_by, containers_from, containers_of}
 use Rattle.page_documents.proofs.Lists.{not_some, its_number}

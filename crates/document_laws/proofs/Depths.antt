@@ -1,9 +1,9 @@
 -- No command makes a tree deeper than the limit.
 use Rattle.std.proofs.Common.{◌≡◌, ◌≢◌, ◌<◌, ◌≤◌, ◌+◌, ℕ, length, Option, Some, None, ◌⊎◌, inl, inr, refl, ap, sym, subst, ◌∙◌, arith}
 use Rattle.std.proofs.lemmas.Bool.{cases_eq, true≢false}
-use Rattle.page_model.specs.World.{Element, Tree}
+use Rattle.page_model.specs.World.{Element, Tree, Container, InElement, InDocument}
 use Rattle.page_model.specs.Lookups.{element_at, no_element}
-use Rattle.page_model.specs.Documents.{Container, InElement, InDocument, nodes_of, inclusive_descendants, element_depth, levels_of, removed, linked, sibling_meant, adopted, shown, inserted}
+use Rattle.page_model.specs.Documents.{nodes_of, inclusive_descendants, element_depth, levels_of, removed, linked, sibling_meant, adopted, shown, inserted}
 use Rattle.page_model.specs.Steps.{Did}
 use Rattle.page_model.specs.Commands.{placing}
 use Rattle.page_laws.proofs.Steps.{of_did}

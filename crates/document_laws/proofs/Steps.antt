@@ -5,9 +5,9 @@ use Rattle.text_io.specs.Limits.{common_limit}
 use Rattle.text_io.specs.declared.kinds.LimitKind.TheVariants as limits
 use Rattle.layout_model.specs.Items.{Item, Kind}
 use Rattle.script_model.specs.Syntax.{Action}
-use Rattle.page_model.specs.World.{Element, Tree, World}
+use Rattle.page_model.specs.World.{Element, Tree, World, Container, InElement, InDocument}
 use Rattle.page_model.specs.Lookups.{no_element, no_document}
-use Rattle.page_model.specs.Documents.{Container, InElement, InDocument, removed}
+use Rattle.page_model.specs.Documents.{removed}
 use Rattle.page_model.specs.Edits.{new_document, with_element, with_frame, change_item}
 use Rattle.page_model.specs.Steps.{Did, Effect}
 use Rattle.page_model.specs.Operands.{Present, Handlers}

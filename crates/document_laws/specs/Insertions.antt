@@ -1,7 +1,7 @@
 -- The trees that an insertion goes through.
 use Rattle.std.specs.Prelude.{◌≡◌, ℕ, Option}
-use Rattle.page_model.specs.World.{Tree}
-use Rattle.page_model.specs.Documents.{Container, removed, sibling_meant, linked, document_of_container, adopted, shown}
+use Rattle.page_model.specs.World.{Tree, Container}
+use Rattle.page_model.specs.Documents.{removed, sibling_meant, linked, document_of_container, adopted, shown}
 use Rattle.document_laws.specs.Levels.{MakeLowTrees, IsWithinLevels}
 
 -- the element stands at its new place

@@ -5,8 +5,8 @@ ghost use Rattle.layout_model.specs.Nodes.{path_up, path_of, order_down as nodes
 ghost use Rattle.layout_model.specs.Boxes.{Inputs, box_down, box_in, inputs_up, inputs_at};
 ghost use Rattle.layout_model.specs.Views.{View};
 ghost use Rattle.layout_model.specs.FlatPlaces.{flat_up, flat_place};
-ghost use Rattle.page_model.specs.World.{Tree};
-ghost use Rattle.page_model.specs.Documents.{Container, nodes_of, order_down, inclusive_descendants, levels_down, levels_of};
+ghost use Rattle.page_model.specs.World.{Tree, Container};
+ghost use Rattle.page_model.specs.Documents.{nodes_of, order_down, inclusive_descendants, levels_down, levels_of};
 ghost use Rattle.page_model.specs.Steps.{Did};
 ghost use Rattle.page_model.specs.Commands.{placing};
 ghost use Rattle.page_documents.specs.Places.{IsThere};

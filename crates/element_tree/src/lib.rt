@@ -1,12 +1,14 @@
 //! An ordered tree with DOM's rules of insertion.
 #![tactic(auto)]
 
+mod container;
 mod document;
 mod fault;
 mod links;
 mod node;
 mod tree;
 
+pub use container::Container;
 pub use document::DocumentId;
 pub use fault::TreeFault;
 pub use node::NodeId;

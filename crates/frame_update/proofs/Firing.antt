@@ -7,7 +7,7 @@ use Rattle.text_io.specs.declared.kinds.EventKind.TheVariants as events
 use Rattle.script_model.specs.TraceLines.{FiredEvent, EventLine}
 use Rattle.page_model.specs.Callbacks.{Script, invoke, bubble, fire}
 use Rattle.page_model.specs.Runs.{silent, say, ◌followed_by◌}
-use Rattle.page_model.specs.World.{World, EventTarget as ModelTarget}
+use Rattle.page_model.specs.World.{World, EventTarget as ModelContainer}
 use Rattle.event_tables.specs.Seen.{seen_target}
 use Rattle.event_tables.specs.declared.events.EventTarget.{EventTarget}
 use Rattle.event_tables.specs.declared.events.EventTarget.TheVariants as aims
@@ -33,7 +33,7 @@ module _ (script : Script) (event : EventKind) (world : World) where
   other_target (aims.Query query) other = refl
 
 -- its line, then the listeners at its target, and then where it bubbles
-pub fire_is : (script : Script) (line : FiredEvent) (target : ModelTarget) (event : EventKind) (world : World) →
+pub fire_is : (script : Script) (line : FiredEvent) (target : ModelContainer) (event : EventKind) (world : World) →
     (say (EventLine line ∷ []) world followed_by invoke script target event followed_by bubble script target event) ≡ fire script line target event world
 unfolding fire
 fire_is script line target event world = refl

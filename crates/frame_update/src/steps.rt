@@ -3,21 +3,20 @@
 ghost use Rattle.std.specs.Prelude.{◌≡◌, ◌<◌, true, length};
 ghost use Rattle.page_model.specs.Documents.{is_active};
 ghost use Rattle.frame_update.specs.Goes.{handlers_of, world_of, Goes, IsUnderWay};
-ghost use Rattle.page_model.specs.Ticks.{event_target_of, media_steps, resize_steps, scroll_steps, scrolled_text};
+ghost use Rattle.page_model.specs.Ticks.{event_target_of, media_steps, resize_steps, scroll_steps};
 ghost use Rattle.page_model.specs.Callbacks.{fire, while_active};
 ghost use Rattle.page_model.specs.Ranges.{IsScrollIn, counts_of};
 ghost use Rattle.script_model.specs.TraceLines.{FiredScroll, FiredChange};
-ghost use Rattle.page_model.specs.Names.{query_list_text};
+ghost use Rattle.page_model.specs.Names.{query_list_text, container_text};
 ghost use Rattle.page_model.specs.World.{QueryTarget};
-ghost use Rattle.scrolling.specs.Seen.{seen_target};
+ghost use Rattle.container_model.specs.Seen.{seen_container};
 ghost use Rattle.text_io.specs.declared.kinds.EventKind.TheVariants as events;
 
 use crate::events::fire;
 use crate::run::Run;
-use element_tree::DocumentId;
+use element_tree::{Container, DocumentId};
 use event_tables::EventTarget;
 use page_state::{Change, Label};
-use scrolling::ScrollTarget;
 use std::sync::ledger::Ledger;
 use text_io::{EventKind, Sink};
 use trace_runs::RunFault;
@@ -45,19 +44,19 @@ pub(crate) fn resize_steps<K: Sink, L: Ledger>(
 fn scroll_step<K: Sink, L: Ledger>(
     run: &mut Run<'_, K, L>,
     document: DocumentId,
-    target: ScrollTarget,
+    target: Container,
 ) -> Result<(), RunFault>
     requires ready { IsUnderWay run.old }
-    requires target { IsScrollIn (counts_of 0 (world_of run.old)) (seen_target target) }
+    requires target { IsScrollIn (counts_of 0 (world_of run.old)) (seen_container target) }
     ensures { Goes K.taken K.faults run.old run.new result
-        (while_active document.0 (λ now. fire (handlers_of run.old) (FiredScroll (scrolled_text (now.names) (seen_target target))) (event_target_of (seen_target target)) events.Scroll now) (world_of run.old)) }
+        (while_active document.0 (λ now. fire (handlers_of run.old) (FiredScroll (container_text (now.names) (seen_container target))) (event_target_of (seen_container target)) events.Scroll now) (world_of run.old)) }
 {
     if !run.page.is_active(document) {
         return Ok(());
     }
     let target = match target {
-        ScrollTarget::Node(node) => EventTarget::Node(node),
-        ScrollTarget::Document(scrolled) => EventTarget::Document(scrolled),
+        Container::Element(node) => EventTarget::Node(node),
+        Container::Document(scrolled) => EventTarget::Document(scrolled),
     };
     let line = EventLine::Scroll(run.page.label(Label::Target(target)));
     fire(run, line, target, EventKind::Scroll)

@@ -25,7 +25,8 @@ use Rattle.trace_runs.proofs.Answered.{answered_did, answered_met, threw_run, on
 use Rattle.trace_runs.proofs.Lines.{says_none}
 use Rattle.trace_runs.proofs.Runs.{run_same, cut_as, ended_as, only_if_true, only_if_false, say_run}
 use Rattle.page_state.specs.Answers.{Applied, Moved}
-use Rattle.page_state.specs.Things.{present_of, present_with}
+use Rattle.page_names.specs.Things.{present_of}
+use Rattle.page_state.specs.Things.{present_with}
 use Rattle.page_state.specs.declared.answers.PageFault.{PageFault}
 use Rattle.page_state.specs.declared.answers.PageFault.TheVariants.{Throw, Limit, Memory}
 use Rattle.handlers.specs.Answers.{Refused}

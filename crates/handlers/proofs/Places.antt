@@ -17,7 +17,8 @@ use Rattle.page_model.specs.Ranges.{IsPresentIn}
 use Rattle.page_model.specs.World.{World, Name, Entry}
 use Rattle.trace_runs.specs.Writes.{Says}
 use Rattle.trace_runs.proofs.Lines.{says_none}
-use Rattle.page_state.specs.Things.{present_with, IsSubject}
+use Rattle.page_names.specs.Things.{IsSubject}
+use Rattle.page_state.specs.Things.{present_with}
 use Rattle.resize_observer.specs.declared.observation.ObserverId.{ObserverId}
 use Rattle.page_model.specs.Callbacks.{CutEntries, presents, entry_lines}
 use Rattle.handlers.specs.Entries.{entries_of, present_at, AreIn}

@@ -10,7 +10,7 @@ ghost use Rattle.trace_runs.specs.Flows.{flow_of};
 ghost use Rattle.trace_runs.specs.Runs.{Runs};
 ghost use Rattle.trace_runs.specs.Writes.{Told};
 ghost use Rattle.page_state.specs.Answers.{IsHanded, lines_of};
-ghost use Rattle.page_state.specs.Things.{IsSubject};
+ghost use Rattle.page_names.specs.Things.{IsSubject};
 ghost use Rattle.handlers.specs.Answers.{Refused};
 ghost use Rattle.handlers.specs.Entries.{subject_of};
 

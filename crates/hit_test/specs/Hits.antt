@@ -7,7 +7,7 @@ use Rattle.page_model.specs.World.{ImplicitRoot, World}
 use Rattle.page_model.specs.PageBoxes as boxes
 use Rattle.page_model.specs.Shown.{Shown, shown_of, has_box}
 use Rattle.page_model.specs.Chains.{border_rect, clips_between, viewport_rect}
-use Rattle.clip_chain.specs.declared.spot.Spot.{Spot}
+use Rattle.element_tree.specs.declared.container.Container.{Container}
 use Rattle.clip_chain.specs.Worlds.{view_spot}
 use Rattle.clip_chain.specs.Scenes.{Scene}
 use Rattle.hit_test.specs.Painting.{paint_order}
@@ -33,5 +33,5 @@ unfolding is_hit paint_order
 hits world at = reverse (filter (is_hit (shown_of world) at) (paint_order (world.tree)))
 
 -- the same of a target by its chain to the viewport of the top document, with these spots between
-abbrev pub shows_between : Scene → Point → Spot → List Spot → Bool
+abbrev pub shows_between : Scene → Point → Container → List Container → Bool
 shows_between scene at target between = list_all (has_point at) (scene.bounds target ∷ scene.bounds (view_spot 0) ∷ filter_map (scene.clip) between)

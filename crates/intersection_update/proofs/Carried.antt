@@ -7,7 +7,7 @@ use Rattle.page_model.specs.World.{Root, Finding, Registration, IntersectionObse
 use Rattle.page_model.specs.Chains.{moved_out}
 use Rattle.page_model.specs.Lookups.{no_intersection_observer, intersection_observer_at, scroll_margins_at}
 use Rattle.page_documents.proofs.Adopting.{change_length}
-use Rattle.clip_chain.specs.declared.spot.Spot.{Spot}
+use Rattle.element_tree.specs.declared.container.Container.{Container}
 use Rattle.clip_chain.specs.Scenes.{Scene, through, root_bounds}
 use Rattle.clip_chain.specs.Worlds.{element_spot, spot_of_root}
 use Rattle.intersection_observer.specs.Places.{Standing as Place, standing_of}
@@ -111,12 +111,12 @@ module _ (before after : IntersectionObservers) (carried : Carried before after)
   margins_still = ap (λ (p : Place). (intersection_observer_at after p.watcher).margins) place_still ∙ (carried.alike (place_of before serial).watcher).margins
 
   module _ (scene : Scene) (standings : Root → ℕ → Standing) where
-    pub along_still : (P : Spot → Type 0) → AlongChain P scene standings before serial → AlongChain P scene standings after serial
+    pub along_still : (P : Container → Type 0) → AlongChain P scene standings before serial → AlongChain P scene standings after serial
     along_still P along =
         let Q : Root → ℕ → Type 0 = λ root target. IfChained (standings root target) (EachAlong P scene (element_spot target) (spot_of_root root)) in
         subst (λ root. Q root (target_of after serial)) (sym root_still) (subst (Q (observer_of before serial).root) (sym target_still) along)
 
-    pub along_was : (P : Spot → Type 0) → AlongChain P scene standings after serial → AlongChain P scene standings before serial
+    pub along_was : (P : Container → Type 0) → AlongChain P scene standings after serial → AlongChain P scene standings before serial
     along_was P along =
         let Q : Root → ℕ → Type 0 = λ root target. IfChained (standings root target) (EachAlong P scene (element_spot target) (spot_of_root root)) in
         subst (λ root. Q root (target_of before serial)) root_still (subst (Q (observer_of after serial).root) target_still along)

@@ -9,7 +9,7 @@ use Rattle.std.proofs.lemmas.List.Elements.{All-head, All-tail, All-cons, All-ni
 use Rattle.script_model.specs.Margins.{Margins}
 use Rattle.page_model.specs.Shown.{Shown}
 use Rattle.page_model.specs.World.{Registration, IntersectionObservers}
-use Rattle.clip_chain.specs.declared.spot.Spot.{Spot}
+use Rattle.element_tree.specs.declared.container.Container.{Container}
 use Rattle.clip_chain.specs.Worlds.{scene_of}
 use Rattle.intersection_observer.specs.declared.registration.RegistrationId.{RegistrationId}
 use Rattle.intersection_observer.specs.Places.{Standing as Place, target_in}
@@ -179,7 +179,7 @@ module _ (shown : Shown) (it : IntersectionObservers) (watcher : ℕ) (serials :
 
   pub looked_along : (before now last : HeldFindings) (looks : LookedAt) → Looked (scene_of shown) before.seen now.seen before.clips now.clips → HaveLooked shown now.seen looks →
       All (AlongChain (IsNoted looks) (scene_of shown) (standings_of shown) it) (serials_at it watcher) →
-      ((spot : Spot) → All (AlongChain (IsNot spot) (scene_of shown) (standings_of shown) it) (serials_at it watcher) → IsLeft before.seen now.seen before.clips.touches now.clips.touches spot) →
+      ((spot : Container) → All (AlongChain (IsNot spot) (scene_of shown) (standings_of shown) it) (serials_at it watcher) → IsLeft before.seen now.seen before.clips.touches now.clips.touches spot) →
       last.seen ≡ now.seen → last.clips.touches ≡ now.clips.touches → AreLookedAlong shown it watcher before last
   looked_along before now last looks looked known noted left seen touches =
       looked_still before now last

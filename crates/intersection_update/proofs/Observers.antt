@@ -9,7 +9,7 @@ use Rattle.page_model.specs.Shown.{Shown}
 use Rattle.page_model.specs.World.{IntersectionObservers}
 use Rattle.page_model.specs.Lookups.{intersection_observer_at}
 use Rattle.page_model.specs.Intersections.{is_rooted_in}
-use Rattle.clip_chain.specs.declared.spot.Spot.{Spot}
+use Rattle.element_tree.specs.declared.container.Container.{Container}
 use Rattle.clip_chain.specs.Scenes.{Scene}
 use Rattle.clip_chain.specs.Worlds.{scene_of}
 use Rattle.intersection_observer.specs.Places.{Standing as Place, standing_of}
@@ -92,7 +92,7 @@ one_earlier m n below = elim (numbers_apart m n) [
 -- spots that were looked at ---------------------------------------------------------------------------------------------------------
 
 -- a spot that was seen as it is stays so
-seen_still : (scene : Scene) (before now : Seen) (was held : Touched) → ChangesByLooks scene before now was held → (spot : Spot) →
+seen_still : (scene : Scene) (before now : Seen) (was held : Touched) → ChangesByLooks scene before now was held → (spot : Container) →
     sighting_of before spot ≡ Some (sighting_in scene spot) → sighting_of now spot ≡ Some (sighting_in scene spot)
 seen_still scene before now was held changes spot seen = elim (changes.each spot) [
   | inl left ↦ left.sighting ∙ seen
@@ -107,7 +107,7 @@ all_seen_still shown it before now was held changes serial seen =
 -- what so many observers' looks come to
 pub record Looks (shown : Shown) (document : ℕ) (was : IntersectionObservers) (number : ℕ) (before now : HeldFindings) : Type 0 where
   pub touched : ChangesByLooks (scene_of shown) before.seen now.seen before.clips.touches now.clips.touches
-  pub left : (spot : Spot) → ((serial : ℕ) → IsLookedAt shown.tree document was serial → IsOff shown was spot serial) → IsLeft before.seen now.seen before.clips.touches now.clips.touches spot
+  pub left : (spot : Container) → ((serial : ℕ) → IsLookedAt shown.tree document was serial → IsOff shown was spot serial) → IsLeft before.seen now.seen before.clips.touches now.clips.touches spot
   pub seen : (serial : ℕ) → IsLookedAt shown.tree document was serial → (place_of was serial).watcher < number → IsSeen shown was now.seen serial
 
 pub looks_none : (shown : Shown) (document : ℕ) (was : IntersectionObservers) (it : HeldFindings) → Looks shown document was 0 it it
@@ -132,7 +132,7 @@ module _ (shown : Shown) (document : ℕ) (was it : IntersectionObservers) (carr
     ];
   }
     where
-      along_back : (serial : ℕ) (P : Spot → Type 0) → AlongChain P (scene_of shown) (standings_of shown) it serial → AlongChain P (scene_of shown) (standings_of shown) was serial
+      along_back : (serial : ℕ) (P : Container → Type 0) → AlongChain P (scene_of shown) (standings_of shown) it serial → AlongChain P (scene_of shown) (standings_of shown) was serial
       along_back serial P along = along_was was it carried serial (scene_of shown) (standings_of shown) P along
 
   pub looks_skip : (before now : HeldFindings) → is_rooted_in shown.tree document (intersection_observer_at it number).root ≡ false → Looks shown document was number before now → Looks shown document was (number + 1) before now

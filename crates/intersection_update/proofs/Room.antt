@@ -2,8 +2,8 @@
 use Rattle.std.proofs.Common.{ℕ, ◌∷◌, ◌++◌, [], length}
 use Rattle.page_model.specs.Shown.{Shown}
 use Rattle.page_model.specs.World.{IntersectionObservers}
-use Rattle.clip_chain.specs.declared.spot.Spot.{Spot}
-use Rattle.clip_chain.specs.declared.spot.Spot.TheVariants.{Node, View}
+use Rattle.element_tree.specs.declared.container.Container.{Container}
+use Rattle.element_tree.specs.declared.container.Container.TheVariants.{Element, Document}
 use Rattle.clip_chain.specs.Worlds.{scene_of, element_spot, spot_of_root}
 use Rattle.kept_clips.specs.Looked.{MayBeSeen}
 use Rattle.candidate_index.specs.Registrations.{observer_of, target_of, standing_for}
@@ -24,6 +24,6 @@ may_be_walked shown page it held room serial =
     chained_fact (standing_for (standings_of shown) it serial) (EachAlong (MayBeSeen held.seen held.clips) (scene_of shown) target root)
     (λ between leads. all_weaker (IsThere shown.tree) (MayBeSeen held.seen held.clips) each (target ∷ (between ++ root ∷ [])) (there_along shown page target root between leads))
   where
-    each : (spot : Spot) → IsThere shown.tree spot → MayBeSeen held.seen held.clips spot
-    each (Node node) there = room.nodes (node.0) there
-    each (View document) there = room.views document.0 there
+    each : (spot : Container) → IsThere shown.tree spot → MayBeSeen held.seen held.clips spot
+    each (Element node) there = room.nodes (node.0) there
+    each (Document document) there = room.views document.0 there

@@ -14,7 +14,7 @@ use Rattle.page_model.specs.Documents.{is_number}
 use Rattle.page_model.specs.Lookups.{intersection_observer_at, scroll_margins_at, change_intersection_observer}
 use Rattle.page_model.specs.Findings.{finding}
 use Rattle.page_model.specs.Intersections.{is_same_bool, settled_observer}
-use Rattle.clip_chain.specs.declared.spot.Spot.{Spot}
+use Rattle.element_tree.specs.declared.container.Container.{Container}
 use Rattle.clip_chain.specs.Worlds.{scene_of}
 use Rattle.intersection_observer.specs.declared.registration.RegistrationId.{RegistrationId}
 use Rattle.intersection_observer.specs.Places.{Standing as Place, standing_of}
@@ -108,7 +108,7 @@ module _ (shown : Shown) (margins : List Margins) (chained : HaveChains shown) (
 
   -- as they are listed
   pub numbers_are : (names items : List RegistrationId) (now : HeldFindings) → names ≡ items → now.kept ≡ kept.kept →
-      ((between : ℕ → List Spot) → All (IsBetween (scene_of shown) (standings_of shown) was between) (serials_at was watcher) →
+      ((between : ℕ → List Container) → All (IsBetween (scene_of shown) (standings_of shown) was between) (serials_at was watcher) →
       serial_numbers items ≡ filter (λ serial. is_stale_now (seen_for was margins serial (scene_of shown)) (standings_of shown) was between now.kept serial) (serials_at was watcher)) →
       serial_numbers names ≡ filter stale (serials_at was watcher)
   numbers_are names items now named same listed =

@@ -8,7 +8,7 @@ use Rattle.std.proofs.lemmas.List.Elements.{All-cons, All-nil, All-head, All-tai
 use Rattle.std.proofs.lemmas.List.Filters.{sum_by-filter_both}
 use Rattle.std.proofs.lemmas.List.Sums.{sum_by-cons, sum_by-take-le, sum_by_more, length-filter}
 use Rattle.page_model.specs.World.{Root, IntersectionObservers}
-use Rattle.clip_chain.specs.declared.spot.Spot.{Spot}
+use Rattle.element_tree.specs.declared.container.Container.{Container}
 use Rattle.clip_chain.specs.Scenes.{Scene}
 use Rattle.kept_clips.specs.declared.clip.Clip.{Clip}
 use Rattle.kept_clips.specs.declared.pair.Pair.{Pair}
@@ -28,7 +28,7 @@ use Rattle.kept_findings.proofs.Settled.{numbers_apart, apart_test}
 use Rattle.kept_findings.proofs.Ticking.{steps_less, all_steps_less, none_again}
 use Rattle.intersection_update.specs.Keeping.{KeepsComputed}
 
-module _ (scene : Scene) (standings : Root → ℕ → Standing) (it : IntersectionObservers) (between : ℕ → List Spot) where
+module _ (scene : Scene) (standings : Root → ℕ → Standing) (it : IntersectionObservers) (between : ℕ → List Container) where
   abbrev pub cost : ℕ → HeldClips → ℕ
   cost serial clips = steps_for scene standings it between serial clips
 

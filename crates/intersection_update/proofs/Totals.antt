@@ -14,7 +14,7 @@ use Rattle.page_model.specs.Shown.{Shown}
 use Rattle.page_model.specs.World.{IntersectionObserver, IntersectionObservers}
 use Rattle.page_model.specs.Lookups.{intersection_observer_at}
 use Rattle.page_model.specs.Intersections.{is_rooted_in, places_from}
-use Rattle.clip_chain.specs.declared.spot.Spot.{Spot}
+use Rattle.element_tree.specs.declared.container.Container.{Container}
 use Rattle.clip_chain.specs.Scenes.{Scene}
 use Rattle.clip_chain.specs.Worlds.{scene_of}
 use Rattle.intersection_observer.specs.Places.{Standing as Place}
@@ -56,22 +56,22 @@ sum_same f g (n ∷ ns) all =
 
 -- each spot was touched last no earlier
 abbrev pub AreLater : Touched → Touched → Type 0
-AreLater before now = (spot : Spot) → last_touch before spot ≤ last_touch now spot
+AreLater before now = (spot : Container) → last_touch before spot ≤ last_touch now spot
 
 le_then : (a b c : ℕ) → a ≤ b → nat_le b c ≡ true → nat_le a c ≡ true
 le_then a b c less is = grind (arith, nat_tests)
 
-untouched_one : (before now : Touched) → AreLater before now → (since : ℕ) (spot : Spot) (others others_now : Bool) → (others_now ≡ true → others ≡ true) → (one : Bool) → nat_le (last_touch now spot) since ≡ one →
+untouched_one : (before now : Touched) → AreLater before now → (since : ℕ) (spot : Container) (others others_now : Bool) → (others_now ≡ true → others ≡ true) → (one : Bool) → nat_le (last_touch now spot) since ≡ one →
     (one && others_now) ≡ true → (is_untouched before since spot && others) ≡ true
 untouched_one before now later since spot others others_now then true is rest = ap (λ b. b && others) (le_then (last_touch before spot) (last_touch now spot) since (later spot) is) ∙ then rest
 untouched_one before now later since spot others others_now then false is rest = absurd (false≢true rest)
 
-untouched_before : (before now : Touched) → AreLater before now → (since : ℕ) (spots : List Spot) → list_all (is_untouched now since) spots ≡ true → list_all (is_untouched before since) spots ≡ true
+untouched_before : (before now : Touched) → AreLater before now → (since : ℕ) (spots : List Container) → list_all (is_untouched now since) spots ≡ true → list_all (is_untouched before since) spots ≡ true
 untouched_before before now later since [] all = refl
 untouched_before before now later since (spot ∷ spots) all =
     untouched_one before now later since spot (list_all (is_untouched before since) spots) (list_all (is_untouched now since) spots) (untouched_before before now later since spots) (nat_le (last_touch now spot) since) refl all
 
-stands_before : (before now : Touched) → AreLater before now → (computed : Option Computed) (chain : List Spot) → stands now computed chain ≡ true → stands before computed chain ≡ true
+stands_before : (before now : Touched) → AreLater before now → (computed : Option Computed) (chain : List Container) → stands now computed chain ≡ true → stands before computed chain ≡ true
 stands_before before now later None chain is = is
 stands_before before now later (Some c) chain is = by_number (nat_lt c.touches last_number) is
   where
@@ -84,7 +84,7 @@ fewer true b n then = omega arith
 fewer false true n then = absurd (false≢true (then refl))
 fewer false false n then = omega arith
 
-steps_later : (s : Standing) (between : List Spot) (serial : ℕ) (clips : HeldClips) (before now : Touched) → AreLater before now → steps_if s between serial (record clips { touches = before }) ≤ steps_if s between serial (record clips { touches = now })
+steps_later : (s : Standing) (between : List Container) (serial : ℕ) (clips : HeldClips) (before now : Touched) → AreLater before now → steps_if s between serial (record clips { touches = before }) ≤ steps_if s between serial (record clips { touches = now })
 steps_later Apart between serial clips before now later = omega arith
 steps_later NoBox between serial clips before now later = omega arith
 steps_later Chained between serial clips before now later =
@@ -92,7 +92,7 @@ steps_later Chained between serial clips before now later =
     fewer (stands before pair.computed (chain_of pair between)) (stands now pair.computed (chain_of pair between)) (length between) (stands_before before now later pair.computed (chain_of pair between))
 
 -- looks make none earlier
-later_looked : (scene : Scene) (before now : Seen) (was held : Touched) → ((spot : Spot) → last_touch was spot ≤ was.count) → was.count ≤ last_number → ChangesByLooks scene before now was held → AreLater was held
+later_looked : (scene : Scene) (before now : Seen) (was held : Touched) → ((spot : Container) → last_touch was spot ≤ was.count) → was.count ≤ last_number → ChangesByLooks scene before now was held → AreLater was held
 later_looked scene before now was held numbered counted changes spot = elim (changes.each spot) [
   | inl left ↦ let same = left.touch in omega (arith, same)
   | inr anew ↦ let since = anew.touch in let early = numbered spot in raised (last_touch was spot) was.count last_number (last_touch held spot) early counted since
@@ -102,7 +102,7 @@ later_looked scene before now was held numbered counted changes spot = elim (cha
     raised touch count last now early counted since = omega arith
 
 -- a pair that stays takes as many steps
-steps_pair : (s : Standing) (between : List Spot) (serial : ℕ) (touches : Touched) (a b : HeldClips) → pair_of a serial ≡ pair_of b serial →
+steps_pair : (s : Standing) (between : List Container) (serial : ℕ) (touches : Touched) (a b : HeldClips) → pair_of a serial ≡ pair_of b serial →
     steps_if s between serial (record a { touches = touches }) ≡ steps_if s between serial (record b { touches = touches })
 steps_pair Apart between serial touches a b same = refl
 steps_pair NoBox between serial touches a b same = refl
@@ -124,7 +124,7 @@ module _ (shown : Shown) (margins : List Margins) (chained : HaveChains shown) (
   abbrev standing : ℕ → Standing
   standing serial = standing_for (standings_of shown) was serial
 
-  abbrev between : ℕ → List Spot
+  abbrev between : ℕ → List Container
   between serial = spots_between (scene_of shown) (standings_of shown) chained was serial
 
   steps_both : (xs ys : List ℕ) (old now next : HeldFindings) (from steps more : ℕ) → now.clips.touches.count ≤ next.clips.touches.count → AreLater now.clips.touches next.clips.touches →

@@ -6,7 +6,7 @@ use Rattle.script_model.specs.Margins.{Margins}
 use Rattle.page_model.specs.Shown.{Shown}
 use Rattle.page_model.specs.World.{Tree, IntersectionObservers}
 use Rattle.page_model.specs.Intersections.{is_rooted_in}
-use Rattle.clip_chain.specs.declared.spot.Spot.{Spot}
+use Rattle.element_tree.specs.declared.container.Container.{Container}
 use Rattle.clip_chain.specs.Worlds.{scene_of}
 use Rattle.intersection_observer.specs.Places.{standing_of, IsStanding}
 use Rattle.kept_clips.specs.Held.{HeldClips, pair_of}
@@ -46,14 +46,14 @@ abbrev pub IsSeen : Shown → IntersectionObservers → Seen → ℕ → Type 0
 IsSeen shown it seen serial = AlongChain (λ spot. sighting_of seen spot ≡ Some (sighting_in (scene_of shown) spot)) (scene_of shown) (standings_of shown) it serial
 
 -- a spot isn't on its chain
-abbrev pub IsOff : Shown → IntersectionObservers → Spot → ℕ → Type 0
+abbrev pub IsOff : Shown → IntersectionObservers → Container → ℕ → Type 0
 IsOff shown it spot serial = AlongChain (IsNot spot) (scene_of shown) (standings_of shown) it serial
 
 -- spots that were looked at for an observer: each is left as it was, or something differs from what was seen last and it is touched; what
 -- is on no chain of its registrations is left, and what is on one was seen last as it is shown
 pub record AreLookedAlong (shown : Shown) (it : IntersectionObservers) (watcher : ℕ) (before now : HeldFindings) : Type 0 where
   pub touched : ChangesByLooks (scene_of shown) before.seen now.seen before.clips.touches now.clips.touches
-  pub left : (spot : Spot) → ((serial : ℕ) → StandsAt it watcher serial → IsOff shown it spot serial) → IsLeft before.seen now.seen before.clips.touches now.clips.touches spot
+  pub left : (spot : Container) → ((serial : ℕ) → StandsAt it watcher serial → IsOff shown it spot serial) → IsLeft before.seen now.seen before.clips.touches now.clips.touches spot
   pub seen : (serial : ℕ) → StandsAt it watcher serial → IsSeen shown it now.seen serial
 
 -- a registration of which a clip was computed still has one

@@ -3,7 +3,7 @@
 ghost use Rattle.std.specs.Prelude.{◌≡◌, ◌⊎◌, ◌<◌, ◌≤◌, ◌+◌, ℕ, All, false, length, IfOk, OnOk, OnErr};
 ghost use Rattle.page_model.specs.Lookups.{change_intersection_observer};
 ghost use Rattle.page_model.specs.Intersections.{is_rooted_in, settled_observer, has_queued};
-ghost use Rattle.clip_chain.specs.declared.spot.Spot.{Spot as SpotOf};
+ghost use Rattle.element_tree.specs.declared.container.Container.{Container as ContainerOf};
 ghost use Rattle.clip_chain.specs.Worlds.{scene_of};
 ghost use Rattle.intersection_observer.specs.Serials.{HasSerials};
 ghost use Rattle.kept_clips.specs.Held.{pair_of};
@@ -138,7 +138,7 @@ pub fn update<L: Ledger>(
     ensures registered { AreRegistered watchers.new.part scroll_margins.now findings.new }
     ensures room { HaveRoom (length shown.now.tree.elements) (length shown.now.tree.documents) findings.new }
     ensures touched { ChangesByLooks (scene_of shown.now) findings.old.seen findings.new.seen findings.old.clips.touches findings.new.clips.touches }
-    ensures left { (spot : SpotOf) → ((serial : ℕ) → IsLookedAt shown.now.tree document.0 watchers.old.part serial → IsOff shown.now watchers.old.part spot serial) →
+    ensures left { (spot : ContainerOf) → ((serial : ℕ) → IsLookedAt shown.now.tree document.0 watchers.old.part serial → IsOff shown.now watchers.old.part spot serial) →
         IsLeft findings.old.seen findings.new.seen findings.old.clips.touches findings.new.clips.touches spot }
     ensures seen { OnOk result ((serial : ℕ) → IsLookedAt shown.now.tree document.0 watchers.new.part serial → IsSeen shown.now watchers.new.part findings.new.seen serial) }
     ensures kept { (chained : HaveChains shown.now) (serial : ℕ) → is_stale_in shown.now scroll_margins.now chained watchers.old.part findings.old.kept serial ≡ false →

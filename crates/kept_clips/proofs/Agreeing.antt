@@ -3,7 +3,7 @@ use Rattle.std.proofs.Common.{◌≡◌, ◌∙◌, ℕ, List, [], ◌∷◌, Op
 use Rattle.std.specs.Prelude.{filter_map, IfSome}
 use Rattle.std.specs.List.{AllByRecursion, cons_option}
 use Rattle.px_units.specs.declared.Rect.{Rect}
-use Rattle.clip_chain.specs.declared.spot.Spot.{Spot}
+use Rattle.element_tree.specs.declared.container.Container.{Container}
 use Rattle.clip_chain.specs.Scenes.{Scene}
 use Rattle.clip_chain.specs.Chains.{Leads}
 use Rattle.clip_chain.proofs.Leading.{one_chain}
@@ -16,11 +16,11 @@ use Rattle.kept_clips.specs.Scenes.{AgreesAt}
 use Rattle.kept_clips.proofs.Pairs.{exact_inserted}
 
 module _ (seen now : Scene) where
-  leads_in : (root from : Spot) (between : List Spot) → AllByRecursion (AgreesAt seen now) (from ∷ between) → Leads now from between root → Leads seen from between root
+  leads_in : (root from : Container) (between : List Container) → AllByRecursion (AgreesAt seen now) (from ∷ between) → Leads now from between root → Leads seen from between root
   leads_in root from [] alike lead = sym alike.0.container ∙ lead
   leads_in root from (next ∷ between) alike lead = (sym alike.0.container ∙ lead.0, lead.1, leads_in root next between alike.1 lead.2)
 
-  clips_in : (spots : List Spot) → AllByRecursion (AgreesAt seen now) spots → filter_map (seen.clip) spots ≡ filter_map (now.clip) spots
+  clips_in : (spots : List Container) → AllByRecursion (AgreesAt seen now) spots → filter_map (seen.clip) spots ≡ filter_map (now.clip) spots
   clips_in [] alike = refl
   clips_in (spot ∷ spots) alike =
       ap (λ (o : Option Rect). cons_option o (filter_map (seen.clip) spots)) (sym alike.0.clip)
@@ -34,7 +34,7 @@ module _ (seen now : Scene) where
         subst (λ (clip : Clip). IfSome pair.computed (λ (computed : Computed). computed.clip ≡ clip)) (ap common_clip (clips_in between along.1))
         (exact between (leads_in pair.root pair.of between along lead) current)
 
-    pub exact_asked : (between : List Spot) → Leads now (pair_of it number).of between (pair_of it number).root
+    pub exact_asked : (between : List Container) → Leads now (pair_of it number).of between (pair_of it number).root
         → (other : ℕ) → IsExact seen it other → IsExact seen (with_clip number (clip_between now between) it) other
     exact_asked between lead other exact =
         let pair = pair_of it number in

@@ -8,7 +8,7 @@ use Rattle.px_units.specs.declared.Rect.{Rect}
 use Rattle.px_units.specs.Rects.{has_points, overlap}
 use Rattle.page_model.specs.Chains.{common_part}
 use Rattle.clip_chain.proofs.Parts.{none_left, all_left, one_more}
-use Rattle.clip_chain.specs.declared.spot.Spot.{Spot}
+use Rattle.element_tree.specs.declared.container.Container.{Container}
 use Rattle.clip_chain.specs.Scenes.{Scene}
 use Rattle.kept_clips.specs.declared.clip.Clip.{Clip}
 use Rattle.kept_clips.specs.declared.clip.Clip.TheVariants.{Whole, Cut, Nothing}
@@ -53,15 +53,15 @@ cut_whole (first ∷ others) =
 
 -- spot by spot
 
-abbrev pub clips_of : Scene → List Spot → List Rect
+abbrev pub clips_of : Scene → List Container → List Rect
 clips_of scene spots = filter_map (scene.clip) spots
 
 cut_if : (common : Clip) (clip : Option Rect) (clips : List Rect) → cut_by common (cons_option clip clips) ≡ cut_by (clipped_if common clip) clips
 cut_if common None clips = refl
 cut_if common (Some clip) clips = refl
 
-pub cut_next : (scene : Scene) (common : Clip) (next : Spot) (rest : List Spot) → cut_by common (clips_of scene (next ∷ rest)) ≡ cut_by (clipped_if common (scene.clip next)) (clips_of scene rest)
+pub cut_next : (scene : Scene) (common : Clip) (next : Container) (rest : List Container) → cut_by common (clips_of scene (next ∷ rest)) ≡ cut_by (clipped_if common (scene.clip next)) (clips_of scene rest)
 cut_next scene common next rest = cut_if common (scene.clip next) (clips_of scene rest)
 
-pub cut_all : (scene : Scene) (between : List Spot) (common : Clip) → cut_by Whole (clips_of scene between) ≡ common → common ≡ clip_between scene between
+pub cut_all : (scene : Scene) (between : List Container) (common : Clip) → cut_by Whole (clips_of scene between) ≡ common → common ≡ clip_between scene between
 cut_all scene between common e = sym e ∙ cut_whole (clips_of scene between)

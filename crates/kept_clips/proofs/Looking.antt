@@ -1,8 +1,8 @@
 -- Spots that are looked at one after the other.
 use Rattle.std.proofs.Common.{◌≡◌, ◌∙◌, ℕ, ◌≤◌, ◌<◌, true, List, Some, min, suc, ap, refl, sym, subst, inl, inr, arith, length-set}
 use Rattle.std.specs.Prelude.{◌⊎◌, option_and_then}
-use Rattle.clip_chain.specs.declared.spot.Spot.{Spot}
-use Rattle.clip_chain.specs.declared.spot.Spot.TheVariants.{Node, View}
+use Rattle.element_tree.specs.declared.container.Container.{Container}
+use Rattle.element_tree.specs.declared.container.Container.TheVariants.{Element, Document}
 use Rattle.clip_chain.specs.Scenes.{Scene}
 use Rattle.kept_clips.specs.declared.sightings.Sighting.{Sighting}
 use Rattle.kept_clips.specs.Touches.{Touched, last_number, IsAdded, touched, touched_at}
@@ -16,17 +16,17 @@ use Rattle.kept_clips.proofs.Spots.{same_or_apart}
 use Rattle.kept_clips.proofs.Seeing.{seen_there, seen_here, was_scrolling, agrees_as_seen}
 
 -- room stays
-room_seen : (it : Seen) (of spot : Spot) (s : Sighting) → HasRoom it spot → HasRoom (with_sighting of s it) spot
-room_seen it (Node a) (Node b) s room = subst (λ n. b.0 < n) (sym (length-set it.nodes a.0 (Some s))) room
-room_seen it (Node a) (View d) s room = room
-room_seen it (View d) (Node b) s room = room
-room_seen it (View c) (View d) s room = subst (λ n. d.0 < n) (sym (length-set it.views c.0 (Some s))) room
+room_seen : (it : Seen) (of spot : Container) (s : Sighting) → HasRoom it spot → HasRoom (with_sighting of s it) spot
+room_seen it (Element a) (Element b) s room = subst (λ n. b.0 < n) (sym (length-set it.nodes a.0 (Some s))) room
+room_seen it (Element a) (Document d) s room = room
+room_seen it (Document d) (Element b) s room = room
+room_seen it (Document c) (Document d) s room = subst (λ n. d.0 < n) (sym (length-set it.views c.0 (Some s))) room
 
-added_touched : (it : Touched) (of spot : Spot) (number : ℕ) → IsAdded it spot → IsAdded (touched_at number of it) spot
-added_touched it (Node a) (Node b) number added = subst (λ n. b.0 < n) (sym (length-set it.nodes a.0 number)) added
-added_touched it (Node a) (View d) number added = added
-added_touched it (View d) (Node b) number added = added
-added_touched it (View c) (View d) number added = subst (λ n. d.0 < n) (sym (length-set it.views c.0 number)) added
+added_touched : (it : Touched) (of spot : Container) (number : ℕ) → IsAdded it spot → IsAdded (touched_at number of it) spot
+added_touched it (Element a) (Element b) number added = subst (λ n. b.0 < n) (sym (length-set it.nodes a.0 number)) added
+added_touched it (Element a) (Document d) number added = added
+added_touched it (Document d) (Element b) number added = added
+added_touched it (Document c) (Document d) number added = subst (λ n. d.0 < n) (sym (length-set it.views c.0 number)) added
 
 module _ (scene : Scene) where
   pub changes_none : (seen : Seen) (touches : Touched) → ChangesByLooks scene seen seen touches touches
@@ -42,10 +42,10 @@ module _ (scene : Scene) where
     added = λ spot added. added;
   }
 
-  seen_or_left : (seen : Seen) (was : Touched) (of spot : Spot) → HasRoom seen of → IsAdded was of → (¬ sighting_of seen of ≡ Some (sighting_in scene of))
+  seen_or_left : (seen : Seen) (was : Touched) (of spot : Container) → HasRoom seen of → IsAdded was of → (¬ sighting_of seen of ≡ Some (sighting_in scene of))
       → IsLeft seen (with_sighting of (sighting_in scene of) seen) was (touched of was) spot ⊎ IsSeenAnew scene seen (with_sighting of (sighting_in scene of) seen) was (touched of was) spot
   seen_or_left seen was of spot room added differs = elim (same_or_apart of spot) [
-    | inl same ↦ inr (subst (λ (s : Spot). IsSeenAnew scene seen (with_sighting of (sighting_in scene of) seen) was (touched of was) s) (sym same) (record {
+    | inl same ↦ inr (subst (λ (s : Container). IsSeenAnew scene seen (with_sighting of (sighting_in scene of) seen) was (touched of was) s) (sym same) (record {
       differs = differs;
       sighting = seen_here seen of (sighting_in scene of) room;
       touch = let here = touched_here of was (min (suc was.count) last_number) added in omega arith;
@@ -54,11 +54,11 @@ module _ (scene : Scene) where
   ]
 
   -- one spot that is seen anew
-  pub looked_once : (seen now : Seen) (was held : HeldClips) (of : Spot) → HasRoom seen of → IsAdded was.touches of → (¬ sighting_of seen of ≡ Some (sighting_in scene of))
+  pub looked_once : (seen now : Seen) (was held : HeldClips) (of : Container) → HasRoom seen of → IsAdded was.touches of → (¬ sighting_of seen of ≡ Some (sighting_in scene of))
       → now ≡ with_sighting of (sighting_in scene of) seen → held ≡ record was { touches = touched of (was.touches) }
       → was.touches.count ≤ held.touches.count
       → ((view : Scene → Scene) → IsSpotwise view → (number : ℕ) → IsExact (view (scene_seen seen)) was number → IsExact (view (scene_seen now)) held number)
-      → ((number : ℕ) (chain : List Spot) → stands held.touches (pair_of was number).computed chain ≡ true → stands was.touches (pair_of was number).computed chain ≡ true)
+      → ((number : ℕ) (chain : List Container) → stands held.touches (pair_of was number).computed chain ≡ true → stands was.touches (pair_of was number).computed chain ≡ true)
       → Looked scene seen now was held
   looked_once seen now was held of room added differs is is_held count exact stood = record {
     spots = record {
@@ -76,7 +76,7 @@ module _ (scene : Scene) where
   }
 
   module _ (first second third : Seen) (was held last : Touched) where
-    each_then : was.count ≤ held.count → (spot : Spot)
+    each_then : was.count ≤ held.count → (spot : Container)
         → IsLeft first second was held spot ⊎ IsSeenAnew scene first second was held spot
         → IsLeft second third held last spot ⊎ IsSeenAnew scene second third held last spot
         → IsLeft first third was last spot ⊎ IsSeenAnew scene first third was last spot
@@ -107,7 +107,7 @@ module _ (scene : Scene) where
   }
 
   -- what agreed still does
-  pub agrees_after : (before now : Seen) (was held : HeldClips) (spot : Spot) → Looked scene before now was held → AgreesAt (scene_seen before) scene spot → AgreesAt (scene_seen now) scene spot
+  pub agrees_after : (before now : Seen) (was held : HeldClips) (spot : Container) → Looked scene before now was held → AgreesAt (scene_seen before) scene spot → AgreesAt (scene_seen now) scene spot
   agrees_after before now was held spot looked agrees = elim (looked.spots.each spot) [
     | inl left ↦ record {
       container = agrees.container ∙ sym (ap (option_and_then (λ (s : Sighting). s.container)) left.sighting);
@@ -117,5 +117,5 @@ module _ (scene : Scene) where
     | inr anew ↦ agrees_as_seen now spot scene anew.sighting
   ]
 
-  pub may_after : (before now : Seen) (was held : HeldClips) (spot : Spot) → Looked scene before now was held → MayBeSeen before was spot → MayBeSeen now held spot
+  pub may_after : (before now : Seen) (was held : HeldClips) (spot : Container) → Looked scene before now was held → MayBeSeen before was spot → MayBeSeen now held spot
   may_after before now was held spot looked may = record { room = looked.room spot may.room; added = looked.added spot may.added }

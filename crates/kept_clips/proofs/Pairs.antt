@@ -6,8 +6,8 @@ use Rattle.kept_clips.specs.declared.clip.Clip.{Clip}
 use Rattle.std.specs.Cmp.{nat_cmp_total, unsigned_tied}
 use Rattle.std.specs.FinMap.{get, insert, remove, get-insert, get-remove, get-empty, empty}
 use Rattle.std.specs.Ordering.{nat_cmp, eq_by_cmp}
-use Rattle.clip_chain.specs.declared.spot.Spot.{Spot}
-use Rattle.clip_chain.specs.declared.spot.Spot.TheVariants.{Node, View}
+use Rattle.element_tree.specs.declared.container.Container.{Container}
+use Rattle.element_tree.specs.declared.container.Container.TheVariants.{Element, Document}
 use Rattle.clip_chain.specs.Worlds.{view_spot}
 use Rattle.clip_chain.specs.Scenes.{Scene}
 use Rattle.kept_clips.specs.declared.pair.Pair.{Pair}
@@ -74,7 +74,7 @@ exact_inserted scene it number p other hp h = at_inserted (IsExactPair scene it.
 pub exact_removed : (scene : Scene) (it : HeldClips) (number other : ℕ) → IsExact scene it other → IsExact scene (record it { pairs = remove (it.pairs) number }) other
 exact_removed scene it number other h = at_removed (IsExactPair scene it.touches) it number other (λ between lead current. tt) h
 
-pub exact_new : (scene : Scene) (touches : Touched) (root of : Spot) → IsExactPair scene touches (new_pair root of)
+pub exact_new : (scene : Scene) (touches : Touched) (root of : Container) → IsExactPair scene touches (new_pair root of)
 exact_new scene touches root of = λ between lead current. tt
 
 -- what holds after a call that changes or is refused
@@ -83,9 +83,9 @@ pub either : {A E B : Type 0} (result : Result A E) (P : B → Type 0) (old new 
 either (Ok a) P old new changed ok err hc ho = subst P (sym ok) hc
 either (Err e) P old new changed ok err hc ho = subst P (sym err) ho
 
-none_touched : (spot : Spot) → last_touch (record { count = 0; nodes = []; views = [] }) spot ≤ 0
-none_touched (Node node) = omega arith
-none_touched (View document) = omega arith
+none_touched : (spot : Container) → last_touch (record { count = 0; nodes = []; views = [] }) spot ≤ 0
+none_touched (Element node) = omega arith
+none_touched (Document document) = omega arith
 
 pub numbered_empty : AreNumbered (record { touches = record { count = 0; nodes = []; views = [] }; pairs = empty })
 numbered_empty = record {

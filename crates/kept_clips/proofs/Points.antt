@@ -7,7 +7,7 @@ use Rattle.std.proofs.lemmas.List.Elements.{All-head, All-tail, All-cons}
 use Rattle.px_units.specs.declared.Rect.{Rect}
 use Rattle.px_units.specs.Rects.{has_points, overlap, Holds, HeldBy}
 use Rattle.page_model.specs.Chains.{common_part}
-use Rattle.clip_chain.specs.declared.spot.Spot.{Spot}
+use Rattle.element_tree.specs.declared.container.Container.{Container}
 use Rattle.clip_chain.specs.Scenes.{Scene}
 use Rattle.clip_chain.proofs.Parts.{HoldsAll, held_by_part}
 use Rattle.kept_clips.specs.declared.clip.Clip.{Clip}
@@ -23,13 +23,13 @@ first_joined : (o : Option Rect) (rs : List Rect) (x y : ℤ) → IfSome o (λ (
 first_joined None rs x y h hs = hs
 first_joined (Some r) rs x y h hs = (h, hs)
 
-within_each : (scene : Scene) (spots : List Spot) (x y : ℤ) → HoldsAll x y (filter_map (scene.clip) spots) → All (IsWithin scene x y) spots
+within_each : (scene : Scene) (spots : List Container) (x y : ℤ) → HoldsAll x y (filter_map (scene.clip) spots) → All (IsWithin scene x y) spots
 within_each scene [] x y h = λ k d below. absurd (let no : ⊥ = omega (arith, below) in no)
 within_each scene (s ∷ spots) x y h =
     let apart = first_apart (scene.clip s) (filter_map (scene.clip) spots) x y h in
     All-cons (IsWithin scene x y) s spots apart.0 (within_each scene spots x y apart.1)
 
-held_by_each : (scene : Scene) (spots : List Spot) (x y : ℤ) → All (IsWithin scene x y) spots → HoldsAll x y (filter_map (scene.clip) spots)
+held_by_each : (scene : Scene) (spots : List Container) (x y : ℤ) → All (IsWithin scene x y) spots → HoldsAll x y (filter_map (scene.clip) spots)
 held_by_each scene [] x y h = tt
 held_by_each scene (s ∷ spots) x y h =
     first_joined (scene.clip s) (filter_map (scene.clip) spots) x y (All-head (IsWithin scene x y) s spots h)
@@ -51,7 +51,7 @@ contains_all (first ∷ others) x y =
       (λ h. from_part (common_part first others) x y (held.1 h)),
     )
 
-pub points : (scene : Scene) (between : List Spot) (clip : Clip) → clip ≡ clip_between scene between → (x y : ℤ) → Contains clip x y ↔ All (IsWithin scene x y) between
+pub points : (scene : Scene) (between : List Container) (clip : Clip) → clip ≡ clip_between scene between → (x y : ℤ) → Contains clip x y ↔ All (IsWithin scene x y) between
 points scene between clip e x y =
     let all = contains_all (filter_map (scene.clip) between) x y in
     subst (λ (c : Clip). Contains c x y ↔ All (IsWithin scene x y) between) (sym e) (
@@ -73,19 +73,19 @@ none_first : (o : Option Rect) (rs : List Rect) → cons_option o rs ≡ [] → 
 none_first None rs e = (refl, e)
 none_first (Some r) rs e = let wrong : r ∷ rs ≡ [] = e in absurd (let no : ⊥ = cc in no)
 
-none_clips : (scene : Scene) (spots : List Spot) → filter_map (scene.clip) spots ≡ [] → All (λ (spot : Spot). scene.clip spot ≡ None) spots
+none_clips : (scene : Scene) (spots : List Container) → filter_map (scene.clip) spots ≡ [] → All (λ (spot : Container). scene.clip spot ≡ None) spots
 none_clips scene [] e = λ k d below. absurd (let no : ⊥ = omega (arith, below) in no)
 none_clips scene (s ∷ spots) e =
     let parts = none_first (scene.clip s) (filter_map (scene.clip) spots) e in
-    All-cons (λ (spot : Spot). scene.clip spot ≡ None) s spots parts.0 (none_clips scene spots parts.1)
+    All-cons (λ (spot : Container). scene.clip spot ≡ None) s spots parts.0 (none_clips scene spots parts.1)
 
-left_empty : (scene : Scene) (spots : List Spot) → All (λ (spot : Spot). scene.clip spot ≡ None) spots → filter_map (scene.clip) spots ≡ []
+left_empty : (scene : Scene) (spots : List Container) → All (λ (spot : Container). scene.clip spot ≡ None) spots → filter_map (scene.clip) spots ≡ []
 left_empty scene [] h = refl
 left_empty scene (s ∷ spots) h =
-    ap (λ (o : Option Rect). cons_option o (filter_map (scene.clip) spots)) (All-head (λ (spot : Spot). scene.clip spot ≡ None) s spots h)
-    ∙ left_empty scene spots (All-tail (λ (spot : Spot). scene.clip spot ≡ None) s spots h)
+    ap (λ (o : Option Rect). cons_option o (filter_map (scene.clip) spots)) (All-head (λ (spot : Container). scene.clip spot ≡ None) s spots h)
+    ∙ left_empty scene spots (All-tail (λ (spot : Container). scene.clip spot ≡ None) s spots h)
 
-pub whole : (scene : Scene) (between : List Spot) (clip : Clip) → clip ≡ clip_between scene between → (clip ≡ Whole) ↔ All (λ (spot : Spot). scene.clip spot ≡ None) between
+pub whole : (scene : Scene) (between : List Container) (clip : Clip) → clip ≡ clip_between scene between → (clip ≡ Whole) ↔ All (λ (spot : Container). scene.clip spot ≡ None) between
 whole scene between clip e = (
   (λ is. none_clips scene between (no_clips (filter_map (scene.clip) between) (sym e ∙ is))),
   (λ all. e ∙ ap common_clip (left_empty scene between all)),
@@ -130,7 +130,7 @@ nothing_by Whole clips e never = absurd (never (pos 0) (pos 0) tt)
 nothing_by (Cut part) clips e never = absurd (never part.left part.top (corner part (cut_met clips part e)))
 nothing_by Nothing clips e never = refl
 
-pub nothing : (scene : Scene) (between : List Spot) (clip : Clip) → clip ≡ clip_between scene between → (clip ≡ Nothing) ↔ ((x y : ℤ) → ¬ All (IsWithin scene x y) between)
+pub nothing : (scene : Scene) (between : List Container) (clip : Clip) → clip ≡ clip_between scene between → (clip ≡ Nothing) ↔ ((x y : ℤ) → ¬ All (IsWithin scene x y) between)
 nothing scene between clip e = (
   (λ is x y all. subst (λ (c : Clip). Contains c x y) is ((points scene between clip e x y).1 all)),
   (λ never. nothing_by clip (filter_map (scene.clip) between) (sym e) (λ x y h. never x y ((points scene between clip e x y).0 h))),

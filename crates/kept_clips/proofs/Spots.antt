@@ -3,18 +3,18 @@ use Rattle.std.proofs.Common.{◌≡◌, ◌∙◌, ℕ, ◌≢◌, Bool, true, 
 use Rattle.std.specs.Prelude.{◌⊎◌}
 use Rattle.std.proofs.lemmas.Bool.{false≢true}
 use Rattle.std.proofs.lemmas.Bool.Decides.{Decides-eqb}
-use Rattle.clip_chain.specs.declared.spot.Spot.{Spot}
-use Rattle.clip_chain.specs.declared.spot.Spot.TheVariants.{Node, View}
+use Rattle.element_tree.specs.declared.container.Container.{Container}
+use Rattle.element_tree.specs.declared.container.Container.TheVariants.{Element, Document}
 
-abbrev number_in : Spot → ℕ
-number_in (Node node) = node.0
-number_in (View document) = document.0
+abbrev number_in : Container → ℕ
+number_in (Element node) = node.0
+number_in (Document document) = document.0
 
-pub other_node : (a b : ℕ) → (¬ Node (record { 0 = a }) ≡ Node (record { 0 = b })) → a ≢ b
-other_node a b apart = λ e. apart (ap (λ n. Node (record { 0 = n })) e)
+pub other_node : (a b : ℕ) → (¬ Element (record { 0 = a }) ≡ Element (record { 0 = b })) → a ≢ b
+other_node a b apart = λ e. apart (ap (λ n. Element (record { 0 = n })) e)
 
-pub other_view : (a b : ℕ) → (¬ View (record { 0 = a }) ≡ View (record { 0 = b })) → a ≢ b
-other_view a b apart = λ e. apart (ap (λ n. View (record { 0 = n })) e)
+pub other_view : (a b : ℕ) → (¬ Document (record { 0 = a }) ≡ Document (record { 0 = b })) → a ≢ b
+other_view a b apart = λ e. apart (ap (λ n. Document (record { 0 = n })) e)
 
 -- two spots are the same or not
 
@@ -25,14 +25,14 @@ numbers_apart a b = by_test (a == b) refl
     by_test true e = inl ((Decides-eqb a b).0 e)
     by_test false e = inr (λ same. false≢true (sym e ∙ (Decides-eqb a b).1 same))
 
-pub same_or_apart : (one other : Spot) → (other ≡ one) ⊎ (¬ other ≡ one)
-same_or_apart (Node a) (Node b) = elim (numbers_apart b.0 a.0) [
-  | inl e ↦ inl (ap (λ n. Node (record { 0 = n })) e)
-  | inr apart ↦ inr (λ e. apart (let same : Node b ≡ Node a = e in ap number_in same))
+pub same_or_apart : (one other : Container) → (other ≡ one) ⊎ (¬ other ≡ one)
+same_or_apart (Element a) (Element b) = elim (numbers_apart b.0 a.0) [
+  | inl e ↦ inl (ap (λ n. Element (record { 0 = n })) e)
+  | inr apart ↦ inr (λ e. apart (let same : Element b ≡ Element a = e in ap number_in same))
 ]
-same_or_apart (Node a) (View d) = inr (λ e. let wrong : View d ≡ Node a = e in cc)
-same_or_apart (View d) (Node b) = inr (λ e. let wrong : Node b ≡ View d = e in cc)
-same_or_apart (View c) (View d) = elim (numbers_apart d.0 c.0) [
-  | inl e ↦ inl (ap (λ n. View (record { 0 = n })) e)
-  | inr apart ↦ inr (λ e. apart (let same : View d ≡ View c = e in ap number_in same))
+same_or_apart (Element a) (Document d) = inr (λ e. let wrong : Document d ≡ Element a = e in cc)
+same_or_apart (Document d) (Element b) = inr (λ e. let wrong : Element b ≡ Document d = e in cc)
+same_or_apart (Document c) (Document d) = elim (numbers_apart d.0 c.0) [
+  | inl e ↦ inl (ap (λ n. Document (record { 0 = n })) e)
+  | inr apart ↦ inr (λ e. apart (let same : Document d ≡ Document c = e in ap number_in same))
 ]

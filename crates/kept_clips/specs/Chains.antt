@@ -1,7 +1,7 @@
 -- Which clips that are held still stand: those of pairs on whose chains no spot was touched since.
 use Rattle.std.specs.Prelude.{◌≡◌, ℕ, Bool, true, false, cond, ◌&&◌, nat_lt, nat_le, List, [], ◌∷◌, ◌++◌, Option, Some, None, option_map, IfSome}
 use Rattle.std.specs.List.{AllByRecursion, list_all}
-use Rattle.clip_chain.specs.declared.spot.Spot.{Spot}
+use Rattle.element_tree.specs.declared.container.Container.{Container}
 use Rattle.clip_chain.specs.Scenes.{Scene}
 use Rattle.clip_chain.specs.Chains.{Leads}
 use Rattle.kept_clips.specs.declared.clip.Clip.{Clip}
@@ -13,30 +13,30 @@ use Rattle.kept_clips.specs.Held.{HeldClips, pair_of}
 use Rattle.kept_clips.specs.Scenes.{AgreesAt}
 
 -- the spots on a pair's chain, from its spot outwards to its root
-abbrev pub chain_of : Pair → List Spot → List Spot
+abbrev pub chain_of : Pair → List Container → List Container
 chain_of pair between = pair.of ∷ (between ++ pair.root ∷ [])
 
-abbrev pub is_untouched : Touched → ℕ → Spot → Bool
+abbrev pub is_untouched : Touched → ℕ → Container → Bool
 is_untouched touches since spot = nat_le (last_touch touches spot) since
 
 -- whether a computed clip stands: no spot of the chain was touched since. At the last number of touches nobody can tell any more
-abbrev pub stands : Touched → Option Computed → List Spot → Bool
+abbrev pub stands : Touched → Option Computed → List Container → Bool
 stands touches None chain = false
 stands touches (Some computed) chain = nat_lt computed.touches last_number && list_all (is_untouched touches computed.touches) chain
 
 -- the clip that is held, where it stands
-abbrev pub standing_clip : Touched → Option Computed → List Spot → Option Clip
+abbrev pub standing_clip : Touched → Option Computed → List Container → Option Clip
 standing_clip touches computed chain = cond (stands touches computed chain) (option_map (λ (it : Computed). it.clip) computed) None
 
 -- whether the clip of a pair is handed out as it is held, by the spots between
-abbrev pub is_current : HeldClips → ℕ → List Spot → Bool
+abbrev pub is_current : HeldClips → ℕ → List Container → Bool
 is_current it number between = stands (it.touches) (pair_of it number).computed (chain_of (pair_of it number) between)
 
 -- a clip that is handed out as it is held is the common part of the clips between as they are
 
 abbrev pub IsExactPair : Scene → Touched → Pair → Type 0
 IsExactPair scene touches pair =
-    (between : List Spot) → Leads scene pair.of between pair.root → stands touches pair.computed (chain_of pair between) ≡ true →
+    (between : List Container) → Leads scene pair.of between pair.root → stands touches pair.computed (chain_of pair between) ≡ true →
     IfSome pair.computed (λ (computed : Computed). computed.clip ≡ clip_between scene between)
 
 abbrev pub IsExact : Scene → HeldClips → ℕ → Type 0
@@ -44,4 +44,4 @@ IsExact scene it number = IsExactPair scene it.touches (pair_of it number)
 
 -- another scene has the same containers and clips along a pair's chain in this one
 abbrev pub AgreesAlong : Scene → Scene → Pair → Type 0
-AgreesAlong seen now pair = (between : List Spot) → Leads now pair.of between pair.root → AllByRecursion (AgreesAt seen now) (pair.of ∷ between)
+AgreesAlong seen now pair = (between : List Container) → Leads now pair.of between pair.root → AllByRecursion (AgreesAt seen now) (pair.of ∷ between)

@@ -4,7 +4,7 @@ use Rattle.std.specs.Prelude.{ℤ, List, [], ◌∷◌, filter_map, Option, Some
 use Rattle.px_units.specs.declared.Rect.{Rect}
 use Rattle.px_units.specs.Rects.{meeting, Holds}
 use Rattle.page_model.specs.Chains.{common_part}
-use Rattle.clip_chain.specs.declared.spot.Spot.{Spot}
+use Rattle.element_tree.specs.declared.container.Container.{Container}
 use Rattle.clip_chain.specs.Scenes.{Scene}
 use Rattle.kept_clips.specs.declared.clip.Clip.{Clip}
 use Rattle.kept_clips.specs.declared.clip.Clip.TheVariants.{Whole, Cut, Nothing}
@@ -19,7 +19,7 @@ common_clip [] = Whole
 common_clip (first ∷ others) = cut_or_nothing (common_part first others)
 
 -- the common part of what some spots clip to; a spot that doesn't clip counts for nothing
-abbrev pub clip_between : Scene → List Spot → Clip
+abbrev pub clip_between : Scene → List Container → Clip
 clip_between scene between = common_clip (filter_map (scene.clip) between)
 
 abbrev pub Contains : Clip → ℤ → ℤ → Type 0
@@ -28,7 +28,7 @@ Contains (Cut part) x y = Holds part x y
 Contains Nothing x y = ⊥
 
 -- whether a point is within what a spot clips to; a spot that doesn't clip has every point
-abbrev pub IsWithin : Scene → ℤ → ℤ → Spot → Type 0
+abbrev pub IsWithin : Scene → ℤ → ℤ → Container → Type 0
 IsWithin scene x y spot = IfSome (scene.clip spot) (λ (clip : Rect). Holds clip x y)
 
 -- what a further rectangle leaves

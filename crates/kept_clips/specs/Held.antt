@@ -2,7 +2,7 @@
 use Rattle.std.specs.Prelude.{ℕ, Option, Some, None, IsSome, unwrap_or, option_map}
 use Rattle.std.specs.Ordering.{nat_cmp}
 use Rattle.std.specs.FinMap.{FinMap, get, insert, remove}
-use Rattle.clip_chain.specs.declared.spot.Spot.{Spot}
+use Rattle.element_tree.specs.declared.container.Container.{Container}
 use Rattle.clip_chain.specs.Worlds.{view_spot}
 use Rattle.kept_clips.specs.declared.clip.Clip.{Clip}
 use Rattle.kept_clips.specs.declared.pair.Pair.{Pair}
@@ -20,7 +20,7 @@ abbrev pub IsHeld : HeldClips → ℕ → Type 0
 IsHeld it number = IsSome (pair_at it number)
 
 -- a pair of which no clip was computed
-abbrev pub new_pair : Spot → Spot → Pair
+abbrev pub new_pair : Container → Container → Pair
 new_pair root of = record { root = root; of = of; computed = None }
 
 -- the pair of a number that is held
@@ -29,13 +29,13 @@ pair_of it number = unwrap_or (pair_at it number) (new_pair (view_spot 0) (view_
 
 -- the spots of a pair, and those of the pair of a number
 
-abbrev pub spots_of : Pair → Spot × Spot
+abbrev pub spots_of : Pair → Container × Container
 spots_of pair = (pair.root, pair.of)
 
-abbrev pub spots_at : HeldClips → ℕ → Option (Spot × Spot)
+abbrev pub spots_at : HeldClips → ℕ → Option (Container × Container)
 spots_at it number = option_map spots_of (pair_at it number)
 
-abbrev pub with_pair : ℕ → Spot → Spot → HeldClips → HeldClips
+abbrev pub with_pair : ℕ → Container → Container → HeldClips → HeldClips
 with_pair number root of it = record it { pairs = insert (it.pairs) number (new_pair root of) }
 
 abbrev pub without_pair : ℕ → HeldClips → HeldClips

@@ -1,6 +1,6 @@
 -- Spots that were looked at in a scene: what differs from what was seen last is touched, and what is seen now is kept.
 use Rattle.std.specs.Prelude.{◌≡◌, ◌⊎◌, ℕ, ◌<◌, ◌≤◌, true, false, List, Some, IfSome}
-use Rattle.clip_chain.specs.declared.spot.Spot.{Spot}
+use Rattle.element_tree.specs.declared.container.Container.{Container}
 use Rattle.clip_chain.specs.Ranges.{IsClip, IsBounds}
 use Rattle.clip_chain.specs.Scenes.{Scene}
 use Rattle.kept_clips.specs.Touches.{Touched, last_touch, IsTouchedSince, IsAdded}
@@ -10,19 +10,19 @@ use Rattle.kept_clips.specs.Chains.{stands, IsExact}
 use Rattle.kept_clips.specs.Seen.{Seen, sighting_of, scene_seen, sighting_in, HasRoom}
 
 -- nothing happens to a spot
-pub record IsLeft (before now : Seen) (was held : Touched) (spot : Spot) : Type 0 where
+pub record IsLeft (before now : Seen) (was held : Touched) (spot : Container) : Type 0 where
   pub touch : last_touch held spot ≡ last_touch was spot
   pub sighting : sighting_of now spot ≡ sighting_of before spot
 
 -- a spot is seen of which something differs from what was seen last, or nothing was seen, and it is touched
-pub record IsSeenAnew (scene : Scene) (before now : Seen) (was held : Touched) (spot : Spot) : Type 0 where
+pub record IsSeenAnew (scene : Scene) (before now : Seen) (was held : Touched) (spot : Container) : Type 0 where
   pub differs : ¬ sighting_of before spot ≡ Some (sighting_in scene spot)
   pub sighting : sighting_of now spot ≡ Some (sighting_in scene spot)
   pub touch : IsTouchedSince was held spot
 
 -- what looks change of spots; nothing else is seen, and no other spot touched
 pub record ChangesByLooks (scene : Scene) (before now : Seen) (was held : Touched) : Type 0 where
-  pub each : (spot : Spot) → IsLeft before now was held spot ⊎ IsSeenAnew scene before now was held spot
+  pub each : (spot : Container) → IsLeft before now was held spot ⊎ IsSeenAnew scene before now was held spot
   pub count : was.count ≤ held.count
 
 pub record Looked (scene : Scene) (before now : Seen) (was held : HeldClips) : Type 0 where
@@ -30,18 +30,18 @@ pub record Looked (scene : Scene) (before now : Seen) (was held : HeldClips) : T
   pub pairs : held.pairs ≡ was.pairs
   pub exact : (view : Scene → Scene) → IsSpotwise view → (number : ℕ) → IsExact (view (scene_seen before)) was number → IsExact (view (scene_seen now)) held number
   -- what stands afterwards stood before
-  pub stood : (number : ℕ) (chain : List Spot) → stands held.touches (pair_of was number).computed chain ≡ true → stands was.touches (pair_of was number).computed chain ≡ true
-  pub room : (spot : Spot) → HasRoom before spot → HasRoom now spot
-  pub added : (spot : Spot) → IsAdded was.touches spot → IsAdded held.touches spot
+  pub stood : (number : ℕ) (chain : List Container) → stands held.touches (pair_of was number).computed chain ≡ true → stands was.touches (pair_of was number).computed chain ≡ true
+  pub room : (spot : Container) → HasRoom before spot → HasRoom now spot
+  pub added : (spot : Container) → IsAdded was.touches spot → IsAdded held.touches spot
 
 -- a spot may be looked at
-pub record MayBeSeen (seen : Seen) (clips : HeldClips) (spot : Spot) : Type 0 where
+pub record MayBeSeen (seen : Seen) (clips : HeldClips) (spot : Container) : Type 0 where
   pub room : HasRoom seen spot
   pub added : IsAdded clips.touches spot
 
 -- what is so of each spot of a geometry: its container is farther outwards, its clip and its box are in range, and its clip wasn't moved
-pub record IsInRange (scene : Scene) (rank : Spot → ℕ) (spot : Spot) : Type 0 where
-  pub container : IfSome (scene.container spot) (λ (next : Spot). rank next < rank spot)
+pub record IsInRange (scene : Scene) (rank : Container → ℕ) (spot : Container) : Type 0 where
+  pub container : IfSome (scene.container spot) (λ (next : Container). rank next < rank spot)
   pub clip : IfSome (scene.clip spot) IsClip
   pub bounds : IsBounds (scene.bounds spot)
   pub unmoved : scene.moved spot ≡ false

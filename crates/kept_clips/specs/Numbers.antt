@@ -1,7 +1,7 @@
 -- The numbers of touches that are held.
 use Rattle.std.specs.Prelude.{ℕ, ◌≤◌, Option, Some, None}
 use Rattle.kept_clips.specs.declared.pair.Computed.{Computed}
-use Rattle.clip_chain.specs.declared.spot.Spot.{Spot}
+use Rattle.element_tree.specs.declared.container.Container.{Container}
 use Rattle.kept_clips.specs.Touches.{last_number, last_touch}
 use Rattle.kept_clips.specs.Held.{HeldClips, pair_of}
 
@@ -11,6 +11,6 @@ IsNumbered count (Some computed) = computed.touches ≤ count
 
 -- no clip was computed, and no spot touched, at a number of touches that didn't come yet
 pub record AreNumbered (it : HeldClips) : Type 0 where
-  pub touched : (spot : Spot) → last_touch it.touches spot ≤ it.touches.count
+  pub touched : (spot : Container) → last_touch it.touches spot ≤ it.touches.count
   pub numbered : (number : ℕ) → IsNumbered it.touches.count (pair_of it number).computed
   pub counted : it.touches.count ≤ last_number

@@ -2,8 +2,8 @@
 use Rattle.std.specs.Prelude.{ℕ, suc, ◌<◌, ◌-◌, Bool, false, nat_lt, List, ◌++◌, length, replicate, slice_set, Option, Some, None, option_and_then, option_map, unwrap_or}
 use Rattle.std.specs.List.{slice_index_or}
 use Rattle.page_model.specs.Chains.{zero_rect}
-use Rattle.clip_chain.specs.declared.spot.Spot.{Spot}
-use Rattle.clip_chain.specs.declared.spot.Spot.TheVariants.{Node, View}
+use Rattle.element_tree.specs.declared.container.Container.{Container}
+use Rattle.element_tree.specs.declared.container.Container.TheVariants.{Element, Document}
 use Rattle.clip_chain.specs.Scenes.{Scene}
 use Rattle.kept_clips.specs.declared.sightings.Sighting.{Sighting}
 
@@ -12,9 +12,9 @@ pub record Seen : Type 0 where
   pub nodes : List (Option Sighting)
   pub views : List (Option Sighting)
 
-abbrev pub sighting_of : Seen → Spot → Option Sighting
-sighting_of it (Node node) = slice_index_or it.nodes node.0 None
-sighting_of it (View document) = slice_index_or it.views document.0 None
+abbrev pub sighting_of : Seen → Container → Option Sighting
+sighting_of it (Element node) = slice_index_or it.nodes node.0 None
+sighting_of it (Document document) = slice_index_or it.views document.0 None
 
 -- the scene as it was seen last: a spot that wasn't seen stands in nothing and clips nothing. Containers may go in a circle, since they
 -- weren't seen at one moment
@@ -28,25 +28,25 @@ scene_seen it = record {
 }
 
 -- what is seen of a spot of a scene
-abbrev pub sighting_in : Scene → Spot → Sighting
+abbrev pub sighting_in : Scene → Container → Sighting
 sighting_in scene of = record { container = scene.container of; clip = scene.clip of; bounds = scene.bounds of; scrolls = scene.scrolls of }
 
-abbrev pub with_sighting : Spot → Sighting → Seen → Seen
-with_sighting (Node node) s it = record it { nodes = slice_set (it.nodes) (node.0) (Some s) }
-with_sighting (View document) s it = record it { views = slice_set (it.views) document.0 (Some s) }
+abbrev pub with_sighting : Container → Sighting → Seen → Seen
+with_sighting (Element node) s it = record it { nodes = slice_set (it.nodes) (node.0) (Some s) }
+with_sighting (Document document) s it = record it { views = slice_set (it.views) document.0 (Some s) }
 
-abbrev pub HasRoom : Seen → Spot → Type 0
-HasRoom it (Node node) = node.0 < length it.nodes
-HasRoom it (View document) = document.0 < length it.views
+abbrev pub HasRoom : Seen → Container → Type 0
+HasRoom it (Element node) = node.0 < length it.nodes
+HasRoom it (Document document) = document.0 < length it.views
 
-abbrev pub has_room : Seen → Spot → Bool
-has_room it (Node node) = nat_lt node.0 (length it.nodes)
-has_room it (View document) = nat_lt document.0 (length it.views)
+abbrev pub has_room : Seen → Container → Bool
+has_room it (Element node) = nat_lt node.0 (length it.nodes)
+has_room it (Document document) = nat_lt document.0 (length it.views)
 
 abbrev pub up_to : ℕ → List (Option Sighting) → List (Option Sighting)
 up_to number sightings = sightings ++ replicate (suc number - length sightings) None
 
 -- with room for a spot and for all spots of its kind with lower numbers; what was seen stays as it is
-abbrev pub with_room : Spot → Seen → Seen
-with_room (Node node) it = record it { nodes = up_to (node.0) (it.nodes) }
-with_room (View document) it = record it { views = up_to document.0 (it.views) }
+abbrev pub with_room : Container → Seen → Seen
+with_room (Element node) it = record it { nodes = up_to (node.0) (it.nodes) }
+with_room (Document document) it = record it { views = up_to document.0 (it.views) }

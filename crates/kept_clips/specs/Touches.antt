@@ -1,7 +1,7 @@
 -- When spots were touched: touches are numbered from 1 in order, up to the last number, which all later ones get too.
 use Rattle.std.specs.Prelude.{ℕ, suc, ◌<◌, ◌≤◌, ◌-◌, min, Bool, nat_lt, List, ◌++◌, length, replicate, slice_index, slice_set}
-use Rattle.clip_chain.specs.declared.spot.Spot.{Spot}
-use Rattle.clip_chain.specs.declared.spot.Spot.TheVariants.{Node, View}
+use Rattle.element_tree.specs.declared.container.Container.{Container}
+use Rattle.element_tree.specs.declared.container.Container.TheVariants.{Element, Document}
 
 -- the number of the latest touch, and of the last touch of each element and of each document's viewport, 0 where there was none
 pub record Touched : Type 0 where
@@ -13,34 +13,34 @@ pub record Touched : Type 0 where
 abbrev pub last_number : ℕ
 last_number = 18446744073709551615
 
-abbrev pub last_touch : Touched → Spot → ℕ
-last_touch it (Node node) = slice_index it.nodes node.0
-last_touch it (View document) = slice_index it.views document.0
+abbrev pub last_touch : Touched → Container → ℕ
+last_touch it (Element node) = slice_index it.nodes node.0
+last_touch it (Document document) = slice_index it.views document.0
 
-abbrev pub is_added : Touched → Spot → Bool
-is_added it (Node node) = nat_lt node.0 (length it.nodes)
-is_added it (View document) = nat_lt document.0 (length it.views)
+abbrev pub is_added : Touched → Container → Bool
+is_added it (Element node) = nat_lt node.0 (length it.nodes)
+is_added it (Document document) = nat_lt document.0 (length it.views)
 
-abbrev pub IsAdded : Touched → Spot → Type 0
-IsAdded it (Node node) = node.0 < length it.nodes
-IsAdded it (View document) = document.0 < length it.views
+abbrev pub IsAdded : Touched → Container → Type 0
+IsAdded it (Element node) = node.0 < length it.nodes
+IsAdded it (Document document) = document.0 < length it.views
 
 abbrev pub up_to : ℕ → List ℕ → List ℕ
 up_to number numbers = numbers ++ replicate (suc number - length numbers) 0
 
 -- with a spot and all spots of its kind with lower numbers; those that are there stay as they are
-abbrev pub with_spot : Spot → Touched → Touched
-with_spot (Node node) it = record it { nodes = up_to (node.0) (it.nodes) }
-with_spot (View document) it = record it { views = up_to document.0 (it.views) }
+abbrev pub with_spot : Container → Touched → Touched
+with_spot (Element node) it = record it { nodes = up_to (node.0) (it.nodes) }
+with_spot (Document document) it = record it { views = up_to document.0 (it.views) }
 
-abbrev pub touched_at : ℕ → Spot → Touched → Touched
-touched_at number (Node node) it = record it { count = number; nodes = slice_set (it.nodes) (node.0) number }
-touched_at number (View document) it = record it { count = number; views = slice_set (it.views) document.0 number }
+abbrev pub touched_at : ℕ → Container → Touched → Touched
+touched_at number (Element node) it = record it { count = number; nodes = slice_set (it.nodes) (node.0) number }
+touched_at number (Document document) it = record it { count = number; views = slice_set (it.views) document.0 number }
 
 -- a spot was touched after all touches that were counted before, unless as many were as are counted
-abbrev pub IsTouchedSince : Touched → Touched → Spot → Type 0
+abbrev pub IsTouchedSince : Touched → Touched → Container → Type 0
 IsTouchedSince before now spot = min (suc before.count) last_number ≤ last_touch now spot
 
 -- once a spot was touched
-abbrev pub touched : Spot → Touched → Touched
+abbrev pub touched : Container → Touched → Touched
 touched spot it = touched_at (min (suc it.count) last_number) spot it

@@ -3,7 +3,7 @@
 ghost use Rattle.std.specs.Prelude.{◌≡◌, ◌↔◌, ◌+◌, ◌≤◌, ℕ, ℤ, List, [], length, true, false, None, IfSome, IsOk, OnOk, OnErr};
 ghost use Rattle.std.specs.List.{All};
 ghost use Rattle.std.specs.FinMap.{empty};
-ghost use Rattle.clip_chain.specs.declared.spot.Spot.{Spot as SpotOf};
+ghost use Rattle.element_tree.specs.declared.container.Container.{Container as ContainerOf};
 ghost use Rattle.clip_chain.specs.Scenes.{Scene};
 ghost use Rattle.clip_chain.specs.Chains.{Leads, IsAbove};
 ghost use Rattle.kept_clips.specs.Clips.{clip_between, Contains, IsWithin};
@@ -16,7 +16,8 @@ ghost use Rattle.kept_clips.specs.Scenes.{DiffersOnlyAt};
 use crate::between::{clip_between, is_untouched};
 use crate::touches::Touches;
 use crate::{Clip, Computed, Pair};
-use clip_chain::{Geometry, Spot};
+use clip_chain::Geometry;
+use element_tree::Container;
 use number_map::NumberMap;
 use std::alloc::{AllocError, Global};
 use std::marker::Model;
@@ -66,7 +67,7 @@ impl Clips {
     }
 
     /// Whether a spot was added, so that it may be touched.
-    pub fn is_added(&self, of: Spot) -> bool
+    pub fn is_added(&self, of: Container) -> bool
         ensures { result ≡ is_added self.now.touches of }
     {
         self.touches.is_added(of)
@@ -75,7 +76,7 @@ impl Clips {
     /// Adds a spot, so that it may be touched, with all spots of its kind that have lower numbers. It needn't stand anywhere
     /// yet; spots that were added stay as they are. Refused only for want of memory, and never where the spot was added; nothing
     /// changes then.
-    pub fn add(&mut self, of: Spot) -> Result<(), AllocError>
+    pub fn add(&mut self, of: Container) -> Result<(), AllocError>
         ensures added { OnOk result (self.new ≡ record self.old { touches = with_spot of (self.old.touches) }) }
         ensures same { OnErr result (self.new ≡ self.old) }
         ensures there { IsAdded self.old.touches of → IsOk result }
@@ -86,12 +87,12 @@ impl Clips {
 
     /// Touches a spot: what hangs on its container and its clip is computed anew when it is asked for next. A clip that is exact of
     /// a scene is so of any scene that differs at this spot alone. No memory.
-    pub fn touch(&mut self, of: Spot)
+    pub fn touch(&mut self, of: Container)
         requires { IsAdded self.old.touches of }
         ensures touched { self.new ≡ record self.old { touches = touched of (self.old.touches) } }
         ensures exact { (before after : Scene) (number : ℕ) → IsExact before self.old number → DiffersOnlyAt of before after → IsExact after self.new number }
         ensures count { self.old.touches.count ≤ self.new.touches.count }
-        ensures stood { (number : ℕ) (chain : List SpotOf) →
+        ensures stood { (number : ℕ) (chain : List ContainerOf) →
             stands self.new.touches (pair_of self.old number).computed chain ≡ true → stands self.old.touches (pair_of self.old number).computed chain ≡ true }
     {
         self.touches.touch(of);
@@ -108,7 +109,7 @@ impl Clips {
 
     /// Holds a pair of a root and a spot under a number that no pair has. Its clip isn't computed yet. Refused only where there
     /// is no memory, and then nothing changes.
-    pub fn hold(&mut self, number: u64, root: Spot, of: Spot) -> Result<(), AllocError>
+    pub fn hold(&mut self, number: u64, root: Container, of: Container) -> Result<(), AllocError>
         requires { pair_at self.old number ≡ None }
         ensures held { OnOk result (self.new ≡ with_pair number root of self.old) }
         ensures same { OnErr result (self.new ≡ self.old) }
@@ -148,17 +149,17 @@ impl Clips {
         requires held { IsHeld self.old number }
         requires above { IsAbove (G.scene geometry.now) (pair_of self.old number).root (pair_of self.old number).of }
         requires exact { IsExact (G.scene geometry.now) self.old number }
-        ensures clip { (between : List SpotOf) → Leads (G.scene geometry.now) (pair_of self.old number).of between (pair_of self.old number).root →
+        ensures clip { (between : List ContainerOf) → Leads (G.scene geometry.now) (pair_of self.old number).of between (pair_of self.old number).root →
             result ≡ clip_between (G.scene geometry.now) between }
-        ensures points { (between : List SpotOf) → Leads (G.scene geometry.now) (pair_of self.old number).of between (pair_of self.old number).root → (x y : ℤ) →
+        ensures points { (between : List ContainerOf) → Leads (G.scene geometry.now) (pair_of self.old number).of between (pair_of self.old number).root → (x y : ℤ) →
             Contains result x y ↔ All (IsWithin (G.scene geometry.now) x y) between }
-        ensures whole { (between : List SpotOf) → Leads (G.scene geometry.now) (pair_of self.old number).of between (pair_of self.old number).root →
+        ensures whole { (between : List ContainerOf) → Leads (G.scene geometry.now) (pair_of self.old number).of between (pair_of self.old number).root →
             (result ≡ Clip.Whole) ↔ All (λ spot. (G.scene geometry.now).clip spot ≡ None) between }
-        ensures nothing { (between : List SpotOf) → Leads (G.scene geometry.now) (pair_of self.old number).of between (pair_of self.old number).root →
+        ensures nothing { (between : List ContainerOf) → Leads (G.scene geometry.now) (pair_of self.old number).of between (pair_of self.old number).root →
             (result ≡ Clip.Nothing) ↔ ((x y : ℤ) → ¬ All (IsWithin (G.scene geometry.now) x y) between) }
-        ensures kept { (between : List SpotOf) → Leads (G.scene geometry.now) (pair_of self.old number).of between (pair_of self.old number).root →
+        ensures kept { (between : List ContainerOf) → Leads (G.scene geometry.now) (pair_of self.old number).of between (pair_of self.old number).root →
             is_current self.old number between ≡ true → (self.new ≡ self.old) × (steps.new ≡ steps.old) }
-        ensures computed { (between : List SpotOf) → Leads (G.scene geometry.now) (pair_of self.old number).of between (pair_of self.old number).root →
+        ensures computed { (between : List ContainerOf) → Leads (G.scene geometry.now) (pair_of self.old number).of between (pair_of self.old number).root →
             is_current self.old number between ≡ false → (self.new ≡ with_clip number result self.old) × (steps.new ≡ steps.old + length between) }
         ensures exact { (other : ℕ) → IsExact (G.scene geometry.now) self.old other → IsExact (G.scene geometry.now) self.new other }
         ensures spots { (other : ℕ) → spots_at self.new other ≡ spots_at self.old other }
@@ -176,11 +177,11 @@ impl Clips {
         requires held { IsHeld self.old number }
         requires above { IsAbove (G.scene geometry.now) (pair_of self.old number).root (pair_of self.old number).of }
         requires exact { IsExact (G.scene geometry.now) self.old number }
-        ensures clip { (between : List SpotOf) → Leads (G.scene geometry.now) (pair_of self.old number).of between (pair_of self.old number).root →
+        ensures clip { (between : List ContainerOf) → Leads (G.scene geometry.now) (pair_of self.old number).of between (pair_of self.old number).root →
             result ≡ clip_between (G.scene geometry.now) between }
-        ensures kept { (between : List SpotOf) → Leads (G.scene geometry.now) (pair_of self.old number).of between (pair_of self.old number).root →
+        ensures kept { (between : List ContainerOf) → Leads (G.scene geometry.now) (pair_of self.old number).of between (pair_of self.old number).root →
             is_current self.old number between ≡ true → (self.new ≡ self.old) × (steps.new ≡ steps.old) }
-        ensures computed { (between : List SpotOf) → Leads (G.scene geometry.now) (pair_of self.old number).of between (pair_of self.old number).root →
+        ensures computed { (between : List ContainerOf) → Leads (G.scene geometry.now) (pair_of self.old number).of between (pair_of self.old number).root →
             is_current self.old number between ≡ false → (self.new ≡ with_clip number result self.old) × (steps.new ≡ steps.old + length between) }
         ensures exact { (other : ℕ) → IsExact (G.scene geometry.now) self.old other → IsExact (G.scene geometry.now) self.new other }
         ensures spots { (other : ℕ) → spots_at self.new other ≡ spots_at self.old other }
@@ -204,7 +205,7 @@ impl Clips {
     // The clip that is held of a pair, none where it doesn't stand.
     fn standing<G: Geometry>(&self, geometry: &G, pair: Pair) -> Option<Clip>
         requires { IsAbove (G.scene geometry.now) pair.root pair.of }
-        ensures { (between : List SpotOf) → Leads (G.scene geometry.now) pair.of between pair.root →
+        ensures { (between : List ContainerOf) → Leads (G.scene geometry.now) pair.of between pair.root →
             result ≡ standing_clip self.now.touches pair.computed (chain_of pair between) }
     {
         let computed = pair.computed?;

@@ -1,7 +1,7 @@
 //! What scenes that agree along a pair's chain have in common: the clauses of a function that does nothing.
 
 ghost use Rattle.std.specs.Prelude.{ℕ, List};
-ghost use Rattle.clip_chain.specs.declared.spot.Spot.{Spot as SpotOf};
+ghost use Rattle.element_tree.specs.declared.container.Container.{Container as ContainerOf};
 ghost use Rattle.clip_chain.specs.Scenes.{Scene};
 ghost use Rattle.clip_chain.specs.Chains.{Leads};
 ghost use Rattle.kept_clips.specs.Clips.{clip_between};
@@ -16,7 +16,7 @@ ghost use Rattle.kept_clips.specs.Seen.{Seen as SeenSpots, HasRoom, scene_seen, 
 
 pub fn clips_hang_on_their_chains_alone()
     ensures now { (seen now : Scene) (it : HeldClips) (number : ℕ) → AgreesAlong seen now (pair_of it number) → IsExact seen it number → IsExact now it number }
-    ensures asked { (seen now : Scene) (it : HeldClips) (number : ℕ) (between : List SpotOf) → AgreesAlong seen now (pair_of it number) →
+    ensures asked { (seen now : Scene) (it : HeldClips) (number : ℕ) (between : List ContainerOf) → AgreesAlong seen now (pair_of it number) →
         Leads now (pair_of it number).of between (pair_of it number).root → (other : ℕ) →
         IsExact seen it other → IsExact seen (with_clip number (clip_between now between) it) other }
 {}
@@ -24,6 +24,6 @@ pub fn clips_hang_on_their_chains_alone()
 /// Where a spot is seen anew, what was seen last differs there alone, so that a touch of the spot keeps clips exact of it; and there it
 /// is as it is now.
 pub fn a_spot_is_seen_by_itself()
-    ensures differs { (it : SeenSpots) (of : SpotOf) (sighting : Sighting) → DiffersOnlyAt of (scene_seen it) (scene_seen (with_sighting of sighting it)) }
-    ensures agrees { (it : SeenSpots) (of : SpotOf) (now : Scene) → HasRoom it of → AgreesAt (scene_seen (with_sighting of (sighting_in now of) it)) now of }
+    ensures differs { (it : SeenSpots) (of : ContainerOf) (sighting : Sighting) → DiffersOnlyAt of (scene_seen it) (scene_seen (with_sighting of sighting it)) }
+    ensures agrees { (it : SeenSpots) (of : ContainerOf) (now : Scene) → HasRoom it of → AgreesAt (scene_seen (with_sighting of (sighting_in now of) it)) now of }
 {}

@@ -1,13 +1,13 @@
 //! What is held of a pair of spots.
 
 use crate::Clip;
-use clip_chain::Spot;
+use element_tree::Container;
 
 /// A root, a spot that stands in it, and the clip between the two once it was computed.
 #[derive(Clone, Copy, Debug, PartialEq, Eq)]
 pub struct Pair {
-    pub root: Spot,
-    pub of: Spot,
+    pub root: Container,
+    pub of: Container,
     pub computed: Option<Computed>,
 }
 

@@ -2,7 +2,7 @@
 
 ghost use Rattle.std.specs.Prelude.{◌≡◌, ◌↔◌, ◌<◌, ℕ, [], None, Some, length, IsTrue, IsOk, OnOk, OnErr};
 ghost use Rattle.std.specs.List.{slice_index_or};
-ghost use Rattle.clip_chain.specs.declared.spot.Spot.{Spot as SpotOf};
+ghost use Rattle.element_tree.specs.declared.container.Container.{Container as ContainerOf};
 ghost use Rattle.kept_clips.specs.Touches.{IsAdded, touched};
 ghost use Rattle.kept_clips.specs.Held.{HeldClips};
 ghost use Rattle.kept_clips.specs.Chains.{IsExact};
@@ -12,7 +12,8 @@ ghost use Rattle.kept_clips.specs.Looked.{Looked, IsInRange};
 ghost use Rattle.kept_clips.specs.Seen.{sighting_of, scene_seen, sighting_in, with_sighting, with_room, up_to, HasRoom, has_room};
 
 use crate::Clips;
-use clip_chain::{Scrolls, Spot};
+use clip_chain::Scrolls;
+use element_tree::Container;
 use px_units::Rect;
 use std::alloc::{AllocError, Global};
 use std::marker::Model;
@@ -20,7 +21,7 @@ use std::marker::Model;
 /// What was seen of a spot: what it stood in, what it clipped its content to, its box, and whether it was a scroll container.
 #[derive(Clone, Copy, Debug, PartialEq, Eq)]
 pub struct Sighting {
-    pub container: Option<Spot>,
+    pub container: Option<Container>,
     pub clip: Option<Rect>,
     pub bounds: Rect,
     pub scrolls: bool,
@@ -83,12 +84,12 @@ impl Sightings {
     }
 
     /// Whether there is room for what is seen of a spot.
-    pub fn has_room(&self, of: Spot) -> bool
+    pub fn has_room(&self, of: Container) -> bool
         ensures { result ≡ has_room self.now of }
     {
         match of {
-            Spot::Node(node) => (node.0 as usize) < self.nodes.len(),
-            Spot::View(document) => (document.0 as usize) < self.views.len(),
+            Container::Element(node) => (node.0 as usize) < self.nodes.len(),
+            Container::Document(document) => (document.0 as usize) < self.views.len(),
         }
     }
 
@@ -101,36 +102,36 @@ impl Sightings {
 
     /// Makes room for what is seen of a spot, and of all spots of its kind that have lower numbers. What was seen stays as it is.
     /// Refused only for want of memory, and never where there is room already; nothing changes then.
-    pub fn add(&mut self, of: Spot) -> Result<(), AllocError>
+    pub fn add(&mut self, of: Container) -> Result<(), AllocError>
         ensures added { OnOk result (self.new ≡ with_room of self.old) }
         ensures same { OnErr result (self.new ≡ self.old) }
         ensures there { HasRoom self.old of → IsOk result }
-        ensures seen { (spot : SpotOf) → sighting_of self.new spot ≡ sighting_of self.old spot }
+        ensures seen { (spot : ContainerOf) → sighting_of self.new spot ≡ sighting_of self.old spot }
         ensures exact { (view : Scene → Scene) (clips : HeldClips) (number : ℕ) → IsExact (view (scene_seen self.old)) clips number → IsExact (view (scene_seen self.new)) clips number }
     {
         match of {
-            Spot::Node(node) => extend(&mut self.nodes, node.0),
-            Spot::View(document) => extend(&mut self.views, document.0),
+            Container::Element(node) => extend(&mut self.nodes, node.0),
+            Container::Document(document) => extend(&mut self.views, document.0),
         }
     }
 
     /// What was seen of a spot last.
-    pub fn sighting(&self, of: Spot) -> Option<Sighting>
+    pub fn sighting(&self, of: Container) -> Option<Sighting>
         ensures { result ≡ sighting_of self.now of }
     {
         match of {
-            Spot::Node(node) => sighting_at(self.nodes.as_slice(), node.0),
-            Spot::View(document) => sighting_at(self.views.as_slice(), document.0),
+            Container::Element(node) => sighting_at(self.nodes.as_slice(), node.0),
+            Container::Document(document) => sighting_at(self.views.as_slice(), document.0),
         }
     }
 
-    fn put(&mut self, of: Spot, sighting: Sighting)
+    fn put(&mut self, of: Container, sighting: Sighting)
         requires { HasRoom self.old of }
         ensures { self.new ≡ with_sighting of sighting self.old }
     {
         match of {
-            Spot::Node(node) => self.nodes[node.0 as usize] = Some(sighting),
-            Spot::View(document) => self.views[document.0 as usize] = Some(sighting),
+            Container::Element(node) => self.nodes[node.0 as usize] = Some(sighting),
+            Container::Document(document) => self.views[document.0 as usize] = Some(sighting),
         }
     }
 
@@ -138,14 +139,14 @@ impl Sightings {
     /// seen of it, it is touched. What is seen now is kept.
     ///
     /// Clips that are exact of what was seen last, or of a view of it that tells of each spot by that spot alone, stay exact of it. No memory.
-    pub fn look<G: Scrolls>(&mut self, clips: &mut Clips, geometry: &G, of: Spot)
+    pub fn look<G: Scrolls>(&mut self, clips: &mut Clips, geometry: &G, of: Container)
         requires room { HasRoom self.old of }
         requires added { IsAdded clips.old.touches of }
         ensures seen { self.new ≡ with_sighting of (sighting_in (G.scene geometry.now) of) self.old }
         ensures same { sighting_of self.old of ≡ Some (sighting_in (G.scene geometry.now) of) → clips.new ≡ clips.old }
         ensures touched { (¬ sighting_of self.old of ≡ Some (sighting_in (G.scene geometry.now) of)) → clips.new ≡ record clips.old { touches = touched of (clips.old.touches) } }
         ensures agrees { AgreesAt (scene_seen self.new) (G.scene geometry.now) of }
-        ensures agreed { (other : SpotOf) → AgreesAt (scene_seen self.old) (G.scene geometry.now) other → AgreesAt (scene_seen self.new) (G.scene geometry.now) other }
+        ensures agreed { (other : ContainerOf) → AgreesAt (scene_seen self.old) (G.scene geometry.now) other → AgreesAt (scene_seen self.new) (G.scene geometry.now) other }
         ensures exact { (view : Scene → Scene) → IsSpotwise view → (number : ℕ) → IsExact (view (scene_seen self.old)) clips.old number → IsExact (view (scene_seen self.new)) clips.new number }
         ensures looked { Looked (G.scene geometry.now) self.old self.new clips.old clips.new }
         ensures in_range { IsInRange (G.scene geometry.now) (G.rank geometry.now) of }
@@ -163,7 +164,7 @@ impl Sightings {
     }
 
     // Whether what is seen of a spot is what was seen last.
-    fn is_as_seen(&self, of: Spot, now: Sighting) -> bool
+    fn is_as_seen(&self, of: Container, now: Sighting) -> bool
         ensures { IsTrue result ↔ (sighting_of self.now of ≡ Some now) }
     {
         match self.sighting(of) {

@@ -3,7 +3,7 @@
 ghost use Rattle.std.specs.Prelude.{◌≡◌, ◌<◌, [], length, slice_index, IsOk, OnOk, OnErr};
 ghost use Rattle.kept_clips.specs.Touches.{last_touch, is_added, IsAdded, with_spot, touched, up_to};
 
-use clip_chain::Spot;
+use element_tree::Container;
 use std::alloc::{AllocError, Global};
 use std::marker::Model;
 
@@ -40,43 +40,43 @@ impl Touches {
         self.count
     }
 
-    pub(crate) fn is_added(&self, of: Spot) -> bool
+    pub(crate) fn is_added(&self, of: Container) -> bool
         ensures { result ≡ is_added self.now of }
     {
         match of {
-            Spot::Node(node) => (node.0 as usize) < self.nodes.len(),
-            Spot::View(document) => (document.0 as usize) < self.views.len(),
+            Container::Element(node) => (node.0 as usize) < self.nodes.len(),
+            Container::Document(document) => (document.0 as usize) < self.views.len(),
         }
     }
 
-    pub(crate) fn add(&mut self, of: Spot) -> Result<(), AllocError>
+    pub(crate) fn add(&mut self, of: Container) -> Result<(), AllocError>
         ensures added { OnOk result (self.new ≡ with_spot of self.old) }
         ensures same { OnErr result (self.new ≡ self.old) }
         ensures there { IsAdded self.old of → IsOk result }
     {
         match of {
-            Spot::Node(node) => extend(&mut self.nodes, node.0),
-            Spot::View(document) => extend(&mut self.views, document.0),
+            Container::Element(node) => extend(&mut self.nodes, node.0),
+            Container::Document(document) => extend(&mut self.views, document.0),
         }
     }
 
-    pub(crate) fn last(&self, of: Spot) -> u64
+    pub(crate) fn last(&self, of: Container) -> u64
         ensures { result ≡ last_touch self.now of }
     {
         match of {
-            Spot::Node(node) => number_at(self.nodes.as_slice(), node.0),
-            Spot::View(document) => number_at(self.views.as_slice(), document.0),
+            Container::Element(node) => number_at(self.nodes.as_slice(), node.0),
+            Container::Document(document) => number_at(self.views.as_slice(), document.0),
         }
     }
 
-    pub(crate) fn touch(&mut self, of: Spot)
+    pub(crate) fn touch(&mut self, of: Container)
         requires { IsAdded self.old of }
         ensures { self.new ≡ touched of self.old }
     {
         self.count = self.count.saturating_add(1);
         match of {
-            Spot::Node(node) => self.nodes[node.0 as usize] = self.count,
-            Spot::View(document) => self.views[document.0 as usize] = self.count,
+            Container::Element(node) => self.nodes[node.0 as usize] = self.count,
+            Container::Document(document) => self.views[document.0 as usize] = self.count,
         }
     }
 }

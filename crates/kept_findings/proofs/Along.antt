@@ -1,7 +1,7 @@
 -- A chain that is walked spot by spot outwards, and what is known of the spots that were passed.
 use Rattle.std.proofs.Common.{◌≡◌, ◌∙◌, List, [], ◌∷◌, ◌++◌, Some, ap, sym, subst, append_assoc, append-nil}
 use Rattle.std.specs.List.{AllByRecursion}
-use Rattle.clip_chain.specs.declared.spot.Spot.{Spot}
+use Rattle.element_tree.specs.declared.container.Container.{Container}
 use Rattle.clip_chain.specs.Scenes.{Scene}
 use Rattle.clip_chain.specs.Chains.{Leads, IsAbove}
 use Rattle.clip_chain.proofs.Leading.{one_chain}
@@ -20,19 +20,19 @@ module _ {A : Type 0} where
   all_later P (x ∷ xs) ys all = all_later P xs ys (all.1)
 
 -- the spots that were passed before the rest of a chain
-pub record Passed (P : Spot → Type 0) (between rest : List Spot) : Type 0 where
-  pub spots : List Spot
+pub record Passed (P : Container → Type 0) (between rest : List Container) : Type 0 where
+  pub spots : List Container
   pub whole : between ≡ spots ++ rest
   pub all : AllByRecursion P spots
 
-module _ (scene : Scene) (root of : Spot) where
-  abbrev pub Passes : (Spot → Type 0) → Spot → Type 0
-  Passes P spot = (between rest : List Spot) → Leads scene of between root → Leads scene spot rest root → Passed P between rest
+module _ (scene : Scene) (root of : Container) where
+  abbrev pub Passes : (Container → Type 0) → Container → Type 0
+  Passes P spot = (between rest : List Container) → Leads scene of between root → Leads scene spot rest root → Passed P between rest
 
-  pub passes_first : (P : Spot → Type 0) → Passes P of
+  pub passes_first : (P : Container → Type 0) → Passes P of
   passes_first P = λ between rest h k. record { spots = []; whole = one_chain scene of root between rest h k; all = tt }
 
-  pub passes_next : (P Q : Spot → Type 0) (spot next : Spot) → Passes P spot → ((s : Spot) → P s → Q s) → scene.container spot ≡ Some next → (¬ next ≡ root) → Q next → Passes Q next
+  pub passes_next : (P Q : Container → Type 0) (spot next : Container) → Passes P spot → ((s : Container) → P s → Q s) → scene.container spot ≡ Some next → (¬ next ≡ root) → Q next → Passes Q next
   passes_next P Q spot next so_far each e apart here = λ between rest h k.
       let passed : Passed P between (next ∷ rest) = so_far between (next ∷ rest) h (e, apart, k) in
       record {
@@ -42,15 +42,15 @@ module _ (scene : Scene) (root of : Spot) where
       }
 
   -- a fact of the whole chain at the next spot
-  pub at_next : (P Q : Spot → Type 0) (spot next : Spot) → Passes P spot → scene.container spot ≡ Some next → (¬ next ≡ root) → IsAbove scene root next
-      → ((between : List Spot) → Leads scene of between root → AllByRecursion Q (of ∷ (between ++ root ∷ []))) → (between : List Spot) → Leads scene of between root → Q next
+  pub at_next : (P Q : Container → Type 0) (spot next : Container) → Passes P spot → scene.container spot ≡ Some next → (¬ next ≡ root) → IsAbove scene root next
+      → ((between : List Container) → Leads scene of between root → AllByRecursion Q (of ∷ (between ++ root ∷ []))) → (between : List Container) → Leads scene of between root → Q next
   at_next P Q spot next so_far e apart above all between h =
       let passed : Passed P between (next ∷ above.0) = so_far between (next ∷ above.0) h (e, apart, above.1) in
       let whole : between ++ root ∷ [] ≡ passed.spots ++ (next ∷ (above.0 ++ root ∷ [])) =
       ap (λ spots. spots ++ root ∷ []) passed.whole ∙ append_assoc passed.spots (next ∷ above.0) (root ∷ []) in
       (all_later Q passed.spots (next ∷ (above.0 ++ root ∷ [])) (subst (AllByRecursion Q) whole (all between h).1)).0
 
-  pub passes_last : (P : Spot → Type 0) (spot : Spot) → Passes P spot → scene.container spot ≡ Some root → P of → P root → (between : List Spot) → Leads scene of between root → AllByRecursion P (of ∷ (between ++ root ∷ []))
+  pub passes_last : (P : Container → Type 0) (spot : Container) → Passes P spot → scene.container spot ≡ Some root → P of → P root → (between : List Container) → Leads scene of between root → AllByRecursion P (of ∷ (between ++ root ∷ []))
   passes_last P spot so_far e first last between h =
       let passed : Passed P between [] = so_far between [] h e in
       (first, all_append P between (root ∷ []) (subst (AllByRecursion P) (sym (passed.whole ∙ append-nil passed.spots)) passed.all) (last, tt))

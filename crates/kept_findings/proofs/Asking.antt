@@ -7,7 +7,7 @@ use Rattle.std.specs.List.{All}
 use Rattle.std.proofs.lemmas.List.Elements.{All-head, All-tail}
 use Rattle.script_model.specs.Margins.{Margins}
 use Rattle.page_model.specs.World.{Root, IntersectionObservers}
-use Rattle.clip_chain.specs.declared.spot.Spot.{Spot}
+use Rattle.element_tree.specs.declared.container.Container.{Container}
 use Rattle.clip_chain.specs.Scenes.{Scene}
 use Rattle.clip_chain.specs.Chains.{Leads}
 use Rattle.clip_chain.specs.Worlds.{element_spot, spot_of_root}
@@ -53,7 +53,7 @@ stays_then views first second third one two = record {
 }
 
 -- what is known of a chain that leads to the root
-pub record IsKnown (seen now : Scene) (spots : Option (Spot × Spot)) (root target : Spot) (between : List Spot) : Type 0 where
+pub record IsKnown (seen now : Scene) (spots : Option (Container × Container)) (root target : Container) (between : List Container) : Type 0 where
   pub spots_are : spots ≡ Some (root, target)
   pub agrees : EachAlong (AgreesAt seen now) now target root
   pub leads : Leads now target between root
@@ -65,7 +65,7 @@ exact_apart view clips serial other clip apart exact =
     subst (IsExactPair view clips.touches) (sym (of_inserted clips serial other pair ∙ ap (λ b. cond b pair (pair_of clips other)) (apart_test other serial apart))) exact
 
 -- registrations whose observers see this of what was seen, and this of what there is now
-module _ (views : ℕ → Scene) (seen now : Scene) (standings : Root → ℕ → Standing) (it : IntersectionObservers) (between : ℕ → List Spot) where
+module _ (views : ℕ → Scene) (seen now : Scene) (standings : Root → ℕ → Standing) (it : IntersectionObservers) (between : ℕ → List Container) where
   abbrev pub Known : ℕ → Type 0
   Known serial =
       (views serial ≡ seen)
@@ -83,7 +83,7 @@ module _ (views : ℕ → Scene) (seen now : Scene) (standings : Root → ℕ �
       by_standing NoBox walked leads = tt
       by_standing Chained walked leads = record { spots_are = standing_spots it serial there; agrees = walked; leads = leads }
 
-  one_asked : (clips : HeldClips) (serial : ℕ) (root target : Spot) → views serial ≡ seen → IsPairOf clips serial root target → EachAlong (AgreesAt seen now) now target root → Leads now target (between serial) root
+  one_asked : (clips : HeldClips) (serial : ℕ) (root target : Container) → views serial ≡ seen → IsPairOf clips serial root target → EachAlong (AgreesAt seen now) now target root → Leads now target (between serial) root
       → (b : Bool) → Stays views clips (cond b clips (with_clip serial (clip_between now (between serial)) clips))
   one_asked clips serial root target is pair agrees leads true = stays_same views clips
   one_asked clips serial root target is pair agrees leads false = record {
@@ -99,7 +99,7 @@ module _ (views : ℕ → Scene) (seen now : Scene) (standings : Root → ℕ �
     ];
   }
 
-  by_standing_asked : (s : Standing) (clips : HeldClips) (serial : ℕ) (root target : Spot) → views serial ≡ seen → spots_at clips serial ≡ spots_for it serial → IfChained s (IsKnown seen now (spots_for it serial) root target (between serial))
+  by_standing_asked : (s : Standing) (clips : HeldClips) (serial : ℕ) (root target : Container) → views serial ≡ seen → spots_at clips serial ≡ spots_for it serial → IfChained s (IsKnown seen now (spots_for it serial) root target (between serial))
       → Stays views clips (asked_if s now (between serial) serial clips)
   by_standing_asked Apart clips serial root target is spots known = stays_same views clips
   by_standing_asked NoBox clips serial root target is spots known = stays_same views clips

@@ -6,7 +6,7 @@ use Rattle.std.specs.Ordering.{nat_cmp}
 use Rattle.script_model.specs.Margins.{Margins}
 use Rattle.page_model.specs.World.{Root, Finding, IntersectionObserver, IntersectionObservers}
 use Rattle.page_model.specs.Lookups.{intersection_observer_at, scroll_margins_at}
-use Rattle.clip_chain.specs.declared.spot.Spot.{Spot}
+use Rattle.element_tree.specs.declared.container.Container.{Container}
 use Rattle.clip_chain.specs.Scenes.{Scene}
 use Rattle.intersection_observer.specs.Places.{Standing as Place, standing_of}
 use Rattle.intersection_observer.specs.Seen.{seen_finding}
@@ -57,7 +57,7 @@ module _ (it : IntersectionObservers) (margins : List Margins) (before after : H
 
 -- what is kept of a registration once it was found
 module _ (scene : Scene) (standings : Root → ℕ → Standing) (it : IntersectionObservers) (serial : ℕ) (before after : FinMap nat_cmp (Option Kept)) (last : Kept) (kept : after ≡ insert before serial (Some last)) where
-  pub fresh_found : (between : ℕ → List Spot) → last.basis ≡ basis_for scene standings it serial (between serial) → is_stale_now scene standings it between after serial ≡ false
+  pub fresh_found : (between : ℕ → List Container) → last.basis ≡ basis_for scene standings it serial (between serial) → is_stale_now scene standings it between after serial ≡ false
   fresh_found between is =
       let now = basis_for scene standings it serial (between serial) in
       ap (λ o. is_stale o now) (ap (λ k. kept_of k serial) kept ∙ kept_own before serial (Some last)) ∙ ap (λ b. not b) ((same_is last.basis now).1 is)

@@ -9,7 +9,7 @@ use Rattle.page_model.specs.World.{Finding, Registration, IntersectionObserver, 
 use Rattle.page_model.specs.Lookups.{entry_or, change_at, no_intersection_observer, intersection_observer_at, scroll_margins_at}
 use Rattle.page_model.specs.IntersectionObserving.{is_registered, with_registration, without_registration}
 use Rattle.page_model.specs.Intersections.{is_news}
-use Rattle.clip_chain.specs.declared.spot.Spot.{Spot}
+use Rattle.element_tree.specs.declared.container.Container.{Container}
 use Rattle.clip_chain.specs.Scenes.{Scene, through}
 use Rattle.clip_chain.specs.Worlds.{element_spot, spot_of_root}
 use Rattle.intersection_observer.specs.Places.{Standing as Place, standing_from, standing_of}
@@ -155,7 +155,7 @@ registered_observed it margins w n kept serials there free registered =
     let new : Registration = made_as it.given n in
     let change : IntersectionObserver → IntersectionObserver = λ each. record each { registrations = each.registrations ++ new ∷ [] } in
     let old : IntersectionObserver = entry_or no_intersection_observer it.made w in
-    let root : Spot = spot_of_root old.root in
+    let root : Container = spot_of_root old.root in
     let pair : Pair = new_pair root (element_spot n) in
     registered_but it (with_registration w n it) margins kept (with_findings (it.given) root (element_spot n) kept) it.given (Some (record { watcher = w; target = n }))
     (λ serial.

@@ -3,7 +3,7 @@ use Rattle.std.proofs.Common.{◌≡◌, ℕ, true, false, List, [], ◌∷◌, 
 use Rattle.std.specs.List.{AllByRecursion}
 use Rattle.std.proofs.lemmas.Option.{same_Some}
 use Rattle.page_model.specs.World.{IntersectionObservers}
-use Rattle.clip_chain.specs.declared.spot.Spot.{Spot}
+use Rattle.element_tree.specs.declared.container.Container.{Container}
 use Rattle.clip_chain.specs.Scenes.{Scene}
 use Rattle.clip_chain.specs.Chains.{Leads}
 use Rattle.clip_chain.specs.Worlds.{element_spot, spot_of_root, view_spot}
@@ -20,19 +20,19 @@ abbrev no_pair : Pair
 no_pair = new_pair (view_spot 0) (view_spot 0)
 
 -- a pair that is held for two spots
-pub record IsPairOf (clips : HeldClips) (serial : ℕ) (root target : Spot) : Type 0 where
+pub record IsPairOf (clips : HeldClips) (serial : ℕ) (root target : Container) : Type 0 where
   pub held : IsHeld clips serial
   pub root_held : (pair_of clips serial).root ≡ root
   pub target_held : (pair_of clips serial).of ≡ target
 
-by_option : (o : Option Pair) (root target : Spot) → option_map spots_in o ≡ Some (root, target)
+by_option : (o : Option Pair) (root target : Container) → option_map spots_in o ≡ Some (root, target)
     → (is_some o ≡ true) × ((unwrap_or o no_pair).root ≡ root) × ((unwrap_or o no_pair).of ≡ target)
 by_option None root target e = let wrong : None ≡ Some (root, target) = e in absurd (let no : ⊥ = cc in no)
 by_option (Some p) root target e =
     let same : (p.root, p.of) ≡ (root, target) = same_Some (p.root, p.of) (root, target) e in
-    (refl, ap (λ (both : Spot × Spot). both.0) same, ap (λ (both : Spot × Spot). both.1) same)
+    (refl, ap (λ (both : Container × Container). both.0) same, ap (λ (both : Container × Container). both.1) same)
 
-pub pair_by : (clips : HeldClips) (serial : ℕ) (root target : Spot) → spots_at clips serial ≡ Some (root, target) → IsPairOf clips serial root target
+pub pair_by : (clips : HeldClips) (serial : ℕ) (root target : Container) → spots_at clips serial ≡ Some (root, target) → IsPairOf clips serial root target
 pair_by clips serial root target e =
     let parts = by_option (pair_at clips serial) root target e in
     record { held = parts.0; root_held = parts.1; target_held = parts.2 }
@@ -49,14 +49,14 @@ all_front P [] ys all = tt
 all_front P (x ∷ xs) ys all = (all.0, all_front P xs ys (all.1))
 
 -- what is seen along the chain of its two spots
-module _ (seen now : Scene) (clips : HeldClips) (serial : ℕ) (root target : Spot) (pair : IsPairOf clips serial root target) where
+module _ (seen now : Scene) (clips : HeldClips) (serial : ℕ) (root target : Container) (pair : IsPairOf clips serial root target) where
   pub agrees_along : EachAlong (AgreesAt seen now) now target root → AgreesAlong seen now (pair_of clips serial)
   agrees_along each =
-      let Q : Spot → Spot → Type 0 = λ r t. (between : List Spot) → Leads now t between r → AllByRecursion (AgreesAt seen now) (t ∷ between) in
+      let Q : Container → Container → Type 0 = λ r t. (between : List Container) → Leads now t between r → AllByRecursion (AgreesAt seen now) (t ∷ between) in
       let front : Q root target = λ between lead. let all = each between lead in (all.0, all_front (AgreesAt seen now) between (root ∷ []) (all.1)) in
       subst (λ r. Q r (pair_of clips serial).of) (sym pair.root_held) (subst (λ t. Q root t) (sym pair.target_held) front)
 
-  pub leads_of : (between : List Spot) → Leads now target between root → Leads now (pair_of clips serial).of between (pair_of clips serial).root
+  pub leads_of : (between : List Container) → Leads now target between root → Leads now (pair_of clips serial).of between (pair_of clips serial).root
   leads_of between lead =
-      subst (λ (r : Spot). Leads now (pair_of clips serial).of between r) (sym pair.root_held)
-      (subst (λ (t : Spot). Leads now t between root) (sym pair.target_held) lead)
+      subst (λ (r : Container). Leads now (pair_of clips serial).of between r) (sym pair.root_held)
+      (subst (λ (t : Container). Leads now t between root) (sym pair.target_held) lead)

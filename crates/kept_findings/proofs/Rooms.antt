@@ -1,7 +1,7 @@
 -- Room for what is seen of elements and documents.
 use Rattle.std.proofs.Common.{◌≡◌, ℕ, ◌+◌, ◌<◌, refl, sym, subst, inl, inr, arith}
 use Rattle.std.proofs.lemmas.Bool.{cases_lt}
-use Rattle.clip_chain.specs.declared.spot.Spot.{Spot}
+use Rattle.element_tree.specs.declared.container.Container.{Container}
 use Rattle.clip_chain.specs.Scenes.{Scene}
 use Rattle.clip_chain.specs.Worlds.{element_spot, view_spot}
 use Rattle.kept_clips.specs.Touches.{IsAdded}
@@ -15,7 +15,7 @@ pub room_none : (it : HeldFindings) → HaveRoom 0 0 it
 room_none it = record { nodes = λ n below. absurd (omega (arith, below)); views = λ d below. absurd (omega (arith, below)) }
 
 module _ (elements documents : ℕ) where
-  pub room_by : (before now : HeldFindings) → ((spot : Spot) → MayBeSeen before.seen before.clips spot → MayBeSeen now.seen now.clips spot) → HaveRoom elements documents before → HaveRoom elements documents now
+  pub room_by : (before now : HeldFindings) → ((spot : Container) → MayBeSeen before.seen before.clips spot → MayBeSeen now.seen now.clips spot) → HaveRoom elements documents before → HaveRoom elements documents now
   room_by before now each room = record {
     nodes = λ n below. each (element_spot n) (room.nodes n below);
     views = λ d below. each (view_spot d) (room.views d below);
@@ -33,7 +33,7 @@ module _ (elements documents : ℕ) where
     added = subst (λ t. IsAdded t spot) (sym touches) may.added;
   })
 
-  pub room_registered : (serial : ℕ) (root target : Spot) (it : HeldFindings) → HaveRoom elements documents it → HaveRoom elements documents (with_findings serial root target it)
+  pub room_registered : (serial : ℕ) (root target : Container) (it : HeldFindings) → HaveRoom elements documents it → HaveRoom elements documents (with_findings serial root target it)
   room_registered serial root target it = room_same it (with_findings serial root target it) refl refl
 
   pub room_forgotten : (serial : ℕ) (it : HeldFindings) → HaveRoom elements documents it → HaveRoom elements documents (without_findings serial it)

@@ -6,7 +6,7 @@ use Rattle.std.proofs.lemmas.Bool.{eq-eqb}
 use Rattle.std.proofs.lemmas.List.Sums.{sum_by-cons}
 use Rattle.std.proofs.lemmas.Bool.Decides.{nat_tests}
 use Rattle.page_model.specs.World.{Root, IntersectionObservers}
-use Rattle.clip_chain.specs.declared.spot.Spot.{Spot}
+use Rattle.element_tree.specs.declared.container.Container.{Container}
 use Rattle.clip_chain.specs.Scenes.{Scene}
 use Rattle.kept_clips.specs.declared.clip.Clip.{Clip}
 use Rattle.kept_clips.specs.declared.pair.Pair.{Pair}
@@ -27,7 +27,7 @@ at_most_all true n = omega arith
 at_most_all false n = omega arith
 
 -- a clip that is computed at a number of touches that isn't the last one is current
-untouched_now : (it : HeldClips) → AreNumbered it → (spots : List Spot) → list_all (is_untouched it.touches it.touches.count) spots ≡ true
+untouched_now : (it : HeldClips) → AreNumbered it → (spots : List Container) → list_all (is_untouched it.touches it.touches.count) spots ≡ true
 untouched_now it numbered [] = refl
 untouched_now it numbered (spot ∷ spots) =
     let early : nat_le (last_touch it.touches spot) it.touches.count ≡ true = le_test (last_touch it.touches spot) it.touches.count (numbered.touched spot) in
@@ -39,7 +39,7 @@ untouched_now it numbered (spot ∷ spots) =
 below_test : (m n : ℕ) → m < n → nat_lt m n ≡ true
 below_test m n h = grind (arith, nat_tests)
 
-pub current_now : (it : HeldClips) (serial : ℕ) (clip : Clip) (between : List Spot) → AreNumbered it → it.touches.count < last_number → is_current (with_clip serial clip it) serial between ≡ true
+pub current_now : (it : HeldClips) (serial : ℕ) (clip : Clip) (between : List Container) → AreNumbered it → it.touches.count < last_number → is_current (with_clip serial clip it) serial between ≡ true
 current_now it serial clip between numbered below =
     let pair : Pair = computed_now clip (it.touches) (pair_of it serial) in
     let own : pair_of (with_clip serial clip it) serial ≡ pair = of_inserted it serial serial pair ∙ ap (λ b. cond b pair (pair_of it serial)) (eq-eqb serial serial refl) in
@@ -47,7 +47,7 @@ current_now it serial clip between numbered below =
     ∙ ap (λ b. b && list_all (is_untouched it.touches it.touches.count) (chain_of pair between)) (below_test it.touches.count last_number below)
     ∙ untouched_now it numbered (chain_of pair between)
 
-module _ (scene : Scene) (standings : Root → ℕ → Standing) (it : IntersectionObservers) (between : ℕ → List Spot) where
+module _ (scene : Scene) (standings : Root → ℕ → Standing) (it : IntersectionObservers) (between : ℕ → List Container) where
   -- another pair stays as it is
   current_apart : (serial other : ℕ) (clip : Clip) (clips : HeldClips) → (¬ other ≡ serial) → is_current (with_clip serial clip clips) other (between other) ≡ is_current clips other (between other)
   current_apart serial other clip clips apart =

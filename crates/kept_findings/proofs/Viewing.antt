@@ -9,7 +9,7 @@ use Rattle.script_model.specs.Margins.{Margins}
 use Rattle.page_model.specs.World.{Root, Registration, IntersectionObservers}
 use Rattle.page_model.specs.Lookups.{intersection_observer_at, scroll_margins_at}
 use Rattle.page_model.specs.Chains.{moved_out}
-use Rattle.clip_chain.specs.declared.spot.Spot.{Spot}
+use Rattle.element_tree.specs.declared.container.Container.{Container}
 use Rattle.clip_chain.specs.Scenes.{Scene, is_spot, through}
 use Rattle.clip_chain.specs.Chains.{Leads}
 use Rattle.clip_chain.specs.Worlds.{element_spot, spot_of_root}
@@ -33,7 +33,7 @@ use Rattle.kept_findings.proofs.Along.{all_weaker}
 use Rattle.kept_findings.specs.Walks.{EachAlong, AlongChain}
 use Rattle.kept_findings.specs.Views.{seen_by, seen_for}
 
-through_agrees : (root : Spot) (margins : Margins) (seen now : Scene) (spot : Spot) → AgreesAt seen now spot → AgreesAt (through root margins seen) (through root margins now) spot
+through_agrees : (root : Container) (margins : Margins) (seen now : Scene) (spot : Container) → AgreesAt seen now spot → AgreesAt (through root margins seen) (through root margins now) spot
 through_agrees root margins seen now spot agrees = record {
   container = agrees.container;
   clip = λ i. cond (agrees.scrolls i && not (is_spot root spot)) (option_map (moved_out margins) (agrees.clip i)) (agrees.clip i);
@@ -46,7 +46,7 @@ margins_got [] n default there = absurd (elim there [ ])
 margins_got (x ∷ xs) zero default there = refl
 margins_got (x ∷ xs) (suc n) default there = margins_got xs n default (omega (arith, there))
 
-pub view_is : (it : IntersectionObservers) (margins : List Margins) (watcher : ℕ) (root : Spot) (own : Margins) (scene : Scene) → root ≡ spot_of_root (intersection_observer_at it watcher).root → own ≡ scroll_margins_at margins watcher
+pub view_is : (it : IntersectionObservers) (margins : List Margins) (watcher : ℕ) (root : Container) (own : Margins) (scene : Scene) → root ≡ spot_of_root (intersection_observer_at it watcher).root → own ≡ scroll_margins_at margins watcher
     → through root own scene ≡ seen_by it margins watcher scene
 view_is it margins watcher root own scene rooted has = λ i. through (rooted i) (has i) scene
 
@@ -71,7 +71,7 @@ filter_same f g (x ∷ xs) all =
 
 module _ (it : IntersectionObservers) (margins : List Margins) (watcher : ℕ) where
   -- which of them are stale, by what is kept
-  pub stale_alike : (standings : Root → ℕ → Standing) (scene : Scene) (between : ℕ → List Spot) (kept : FinMap nat_cmp (Option Kept)) (serials : List ℕ) → All (λ serial. (place_of it serial).watcher ≡ watcher) serials
+  pub stale_alike : (standings : Root → ℕ → Standing) (scene : Scene) (between : ℕ → List Container) (kept : FinMap nat_cmp (Option Kept)) (serials : List ℕ) → All (λ serial. (place_of it serial).watcher ≡ watcher) serials
       → filter (is_stale_now (seen_by it margins watcher scene) standings it between kept) serials ≡ filter (λ serial. is_stale_now (seen_for it margins serial scene) standings it between kept serial) serials
   stale_alike standings scene between kept serials at =
       filter_same (is_stale_now (seen_by it margins watcher scene) standings it between kept) (λ serial. is_stale_now (seen_for it margins serial scene) standings it between kept serial) serials
@@ -92,8 +92,8 @@ module _ (it : IntersectionObservers) (margins : List Margins) (watcher : ℕ) w
     walked_through seen serial walked =
         let target = element_spot (target_of it serial) in
         let root = spot_of_root (observer_of it serial).root in
-        let P : Spot → Type 0 = AgreesAt seen now in
-        let Q : Spot → Type 0 = AgreesAt (seen_by it margins watcher seen) (seen_by it margins watcher now) in
+        let P : Container → Type 0 = AgreesAt seen now in
+        let Q : Container → Type 0 = AgreesAt (seen_by it margins watcher seen) (seen_by it margins watcher now) in
         if_still (standing_for standings it serial) (EachAlong P now target root) (EachAlong Q (seen_by it margins watcher now) target root)
         (λ each between lead.
         all_weaker P Q (λ spot. seen_spotwise seen now spot) (target ∷ (between ++ root ∷ []))
@@ -103,14 +103,14 @@ module _ (it : IntersectionObservers) (margins : List Margins) (watcher : ℕ) w
         → All (AlongChain (AgreesAt (seen_by it margins watcher seen) (seen_by it margins watcher now)) (seen_by it margins watcher now) standings it) serials
     all_walked_through seen serials walked = λ k d below. walked_through seen (get_or serials k d) (walked k d below)
 
-    pub between_through : (between : ℕ → List Spot) (serial : ℕ) → IsBetween now standings it between serial → IsBetween (seen_by it margins watcher now) standings it between serial
+    pub between_through : (between : ℕ → List Container) (serial : ℕ) → IsBetween now standings it between serial → IsBetween (seen_by it margins watcher now) standings it between serial
     between_through between serial leads =
         let target = element_spot (target_of it serial) in
         let root = spot_of_root (observer_of it serial).root in
         if_still (standing_for standings it serial) (Leads now target (between serial) root) (Leads (seen_by it margins watcher now) target (between serial) root)
         (leads_through now (scroll_margins_at margins watcher) (spot_of_root (intersection_observer_at it watcher).root) target root (between serial)) leads
 
-    pub all_between_through : (between : ℕ → List Spot) (serials : List ℕ) → All (IsBetween now standings it between) serials → All (IsBetween (seen_by it margins watcher now) standings it between) serials
+    pub all_between_through : (between : ℕ → List Container) (serials : List ℕ) → All (IsBetween now standings it between) serials → All (IsBetween (seen_by it margins watcher now) standings it between) serials
     all_between_through between serials leads = λ k d below. between_through between (get_or serials k d) (leads k d below)
 
 -- clips that are exact of any scene
@@ -128,18 +128,18 @@ exact_unheld view clips serial none = exact_uncomputed view clips serial (unheld
 
 -- room for more spots leaves them exact
 
-module _ (was now : Touched) (same : (spot : Spot) → last_touch now spot ≡ last_touch was spot) where
-  same_tests : (since : ℕ) (spots : List Spot) → list_all (is_untouched now since) spots ≡ list_all (is_untouched was since) spots
+module _ (was now : Touched) (same : (spot : Container) → last_touch now spot ≡ last_touch was spot) where
+  same_tests : (since : ℕ) (spots : List Container) → list_all (is_untouched now since) spots ≡ list_all (is_untouched was since) spots
   same_tests since [] = refl
   same_tests since (spot ∷ spots) =
       ap (λ n. nat_le n since && list_all (is_untouched now since) spots) (same spot)
       ∙ ap (λ b. is_untouched was since spot && b) (same_tests since spots)
 
-  same_stands : (computed : Option Computed) (spots : List Spot) → stands now computed spots ≡ stands was computed spots
+  same_stands : (computed : Option Computed) (spots : List Container) → stands now computed spots ≡ stands was computed spots
   same_stands None spots = refl
   same_stands (Some c) spots = ap (λ b. nat_lt c.touches last_number && b) (same_tests c.touches spots)
 
-pub exact_roomier : (view : Scene) (was now : HeldClips) (number : ℕ) → now.pairs ≡ was.pairs → ((spot : Spot) → last_touch now.touches spot ≡ last_touch was.touches spot) → IsExact view was number → IsExact view now number
+pub exact_roomier : (view : Scene) (was now : HeldClips) (number : ℕ) → now.pairs ≡ was.pairs → ((spot : Container) → last_touch now.touches spot ≡ last_touch was.touches spot) → IsExact view was number → IsExact view now number
 exact_roomier view was now number pairs same exact =
     let pair : Pair = pair_of was number in
     let own : pair_of now number ≡ pair = ap (λ ps. pair_of (record was { pairs = ps }) number) pairs in

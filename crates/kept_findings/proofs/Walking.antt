@@ -5,7 +5,7 @@ use Rattle.std.proofs.Math.ListN.{get_or-map}
 use Rattle.std.proofs.lemmas.List.{length-map}
 use Rattle.page_model.specs.World.{Root, IntersectionObservers}
 use Rattle.page_model.specs.Lookups.{intersection_observer_at}
-use Rattle.clip_chain.specs.declared.spot.Spot.{Spot}
+use Rattle.element_tree.specs.declared.container.Container.{Container}
 use Rattle.clip_chain.specs.Scenes.{Scene}
 use Rattle.clip_chain.specs.Chains.{Leads, IsAbove}
 use Rattle.clip_chain.specs.Worlds.{element_spot, spot_of_root}
@@ -52,7 +52,7 @@ unless_chained Apart fact other = tt
 unless_chained NoBox fact other = tt
 unless_chained Chained fact other = absurd (other refl)
 
-leads_by : (s : Standing) (scene : Scene) (root target : Spot) (above : IfChained s (IsAbove scene root target)) → IfChained s (Leads scene target (between_by s scene root target above) root)
+leads_by : (s : Standing) (scene : Scene) (root target : Container) (above : IfChained s (IsAbove scene root target)) → IfChained s (Leads scene target (between_by s scene root target above) root)
 leads_by Apart scene root target above = tt
 leads_by NoBox scene root target above = tt
 leads_by Chained scene root target above = above.1
@@ -63,7 +63,7 @@ module _ (scene : Scene) (standings : Root → ℕ → Standing) where
       leads_by (standing_for standings it serial) scene (spot_of_root (observer_of it serial).root) (element_spot (target_of it serial)) (chained (observer_of it serial).root (target_of it serial))
 
   module _ (it : IntersectionObservers) where
-    pub along_weaker : (P Q : Spot → Type 0) → ((spot : Spot) → P spot → Q spot) → (serial : ℕ) → AlongChain P scene standings it serial → AlongChain Q scene standings it serial
+    pub along_weaker : (P Q : Container → Type 0) → ((spot : Container) → P spot → Q spot) → (serial : ℕ) → AlongChain P scene standings it serial → AlongChain Q scene standings it serial
     along_weaker P Q each serial along =
         let target = element_spot (target_of it serial) in
         let root = spot_of_root (observer_of it serial).root in
@@ -89,7 +89,7 @@ module _ (it : IntersectionObservers) (serial : ℕ) where
   target_known target found = looked_up (λ (p : Place). p.target) (standing_of serial it) (record { watcher = 0; target = 0 }) target found
 
   -- a fact of its chain, by these
-  module _ (P : Spot → Type 0) (scene : Scene) (standings : Root → ℕ → Standing) where
+  module _ (P : Container → Type 0) (scene : Scene) (standings : Root → ℕ → Standing) where
     abbrev pub AlongFrom : Root → ℕ → Type 0
     AlongFrom root target = IfChained (standings root target) (EachAlong P scene (element_spot target) (spot_of_root root))
 

@@ -3,7 +3,7 @@
 use Rattle.std.specs.Prelude.{◌≡◌, ℕ, [], Option, None}
 use Rattle.std.specs.Ordering.{nat_cmp}
 use Rattle.std.specs.FinMap.{FinMap, empty, insert, remove}
-use Rattle.clip_chain.specs.declared.spot.Spot.{Spot}
+use Rattle.element_tree.specs.declared.container.Container.{Container}
 use Rattle.kept_clips.specs.Touches.{last_touch}
 use Rattle.kept_clips.specs.Held.{HeldClips, with_pair, without_pair}
 use Rattle.kept_clips.specs.Seen.{Seen, sighting_of}
@@ -23,7 +23,7 @@ no_findings = record {
 }
 
 -- a registration with these spots that was never computed
-abbrev pub with_findings : ℕ → Spot → Spot → HeldFindings → HeldFindings
+abbrev pub with_findings : ℕ → Container → Container → HeldFindings → HeldFindings
 with_findings serial root target it = record it { clips = with_pair serial root target (it.clips); kept = insert (it.kept) serial None }
 
 abbrev pub without_findings : ℕ → HeldFindings → HeldFindings
@@ -37,7 +37,7 @@ with_expired serial it = record it { kept = insert (it.kept) serial None }
 pub record IsRoomier (before now : HeldFindings) : Type 0 where
   pub pairs : now.clips.pairs ≡ before.clips.pairs
   pub kept : now.kept ≡ before.kept
-  pub seen : (spot : Spot) → sighting_of now.seen spot ≡ sighting_of before.seen spot
+  pub seen : (spot : Container) → sighting_of now.seen spot ≡ sighting_of before.seen spot
   pub count : now.clips.touches.count ≡ before.clips.touches.count
-  pub touches : (spot : Spot) → last_touch now.clips.touches spot ≡ last_touch before.clips.touches spot
-  pub room : (spot : Spot) → MayBeSeen before.seen before.clips spot → MayBeSeen now.seen now.clips spot
+  pub touches : (spot : Container) → last_touch now.clips.touches spot ≡ last_touch before.clips.touches spot
+  pub room : (spot : Container) → MayBeSeen before.seen before.clips spot → MayBeSeen now.seen now.clips spot

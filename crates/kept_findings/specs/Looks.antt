@@ -1,8 +1,8 @@
 -- Which spots were looked at in an update, so that none is looked at twice.
 use Rattle.std.specs.Prelude.{◌≡◌, ℕ, ◌<◌, Bool, true, false, List, length, replicate, slice_set, Some}
 use Rattle.std.specs.List.{slice_index_or}
-use Rattle.clip_chain.specs.declared.spot.Spot.{Spot}
-use Rattle.clip_chain.specs.declared.spot.Spot.TheVariants.{Node, View}
+use Rattle.element_tree.specs.declared.container.Container.{Container}
+use Rattle.element_tree.specs.declared.container.Container.TheVariants.{Element, Document}
 use Rattle.clip_chain.specs.Scenes.{Scene}
 use Rattle.kept_clips.specs.Seen.{Seen, sighting_of, sighting_in, HasRoom}
 use Rattle.kept_clips.specs.Looked.{IsInRange}
@@ -12,32 +12,32 @@ pub record LookedAt : Type 0 where
   pub nodes : List Bool
   pub views : List Bool
 
-abbrev pub is_looked : LookedAt → Spot → Bool
-is_looked it (Node node) = slice_index_or it.nodes node.0 false
-is_looked it (View document) = slice_index_or it.views document.0 false
+abbrev pub is_looked : LookedAt → Container → Bool
+is_looked it (Element node) = slice_index_or it.nodes node.0 false
+is_looked it (Document document) = slice_index_or it.views document.0 false
 
-abbrev pub IsNoted : LookedAt → Spot → Type 0
+abbrev pub IsNoted : LookedAt → Container → Type 0
 IsNoted it spot = is_looked it spot ≡ true
 
-abbrev pub HasPlace : LookedAt → Spot → Type 0
-HasPlace it (Node node) = node.0 < length it.nodes
-HasPlace it (View document) = document.0 < length it.views
+abbrev pub HasPlace : LookedAt → Container → Type 0
+HasPlace it (Element node) = node.0 < length it.nodes
+HasPlace it (Document document) = document.0 < length it.views
 
 -- none was looked at, with a place for each spot that there is room for what is seen of
 abbrev pub no_looks : Seen → LookedAt
 no_looks seen = record { nodes = replicate (length seen.nodes) false; views = replicate (length seen.views) false }
 
 -- once a spot was looked at
-abbrev pub noted : Spot → LookedAt → LookedAt
-noted (Node node) it = record it { nodes = slice_set (it.nodes) (node.0) true }
-noted (View document) it = record it { views = slice_set (it.views) document.0 true }
+abbrev pub noted : Container → LookedAt → LookedAt
+noted (Element node) it = record it { nodes = slice_set (it.nodes) (node.0) true }
+noted (Document document) it = record it { views = slice_set (it.views) document.0 true }
 
 -- a spot was seen last as it is now, which is as a geometry has it
-pub record IsSeenNow (scene : Scene) (rank : Spot → ℕ) (seen : Seen) (spot : Spot) : Type 0 where
+pub record IsSeenNow (scene : Scene) (rank : Container → ℕ) (seen : Seen) (spot : Container) : Type 0 where
   pub sighting : sighting_of seen spot ≡ Some (sighting_in scene spot)
   pub in_range : IsInRange scene rank spot
 
 -- so is each spot that was looked at; and each spot that there is room for has a place
-pub record AreLooked (scene : Scene) (rank : Spot → ℕ) (seen : Seen) (looks : LookedAt) : Type 0 where
-  pub looked : (spot : Spot) → IsNoted looks spot → IsSeenNow scene rank seen spot
-  pub place : (spot : Spot) → HasRoom seen spot → HasPlace looks spot
+pub record AreLooked (scene : Scene) (rank : Container → ℕ) (seen : Seen) (looks : LookedAt) : Type 0 where
+  pub looked : (spot : Container) → IsNoted looks spot → IsSeenNow scene rank seen spot
+  pub place : (spot : Container) → HasRoom seen spot → HasPlace looks spot

@@ -4,7 +4,7 @@ use Rattle.std.specs.FinMap.{contains_key}
 use Rattle.script_model.specs.Margins.{Margins}
 use Rattle.page_model.specs.World.{IntersectionObservers}
 use Rattle.page_model.specs.Lookups.{intersection_observer_at}
-use Rattle.clip_chain.specs.declared.spot.Spot.{Spot}
+use Rattle.element_tree.specs.declared.container.Container.{Container}
 use Rattle.clip_chain.specs.Worlds.{element_spot, spot_of_root}
 use Rattle.intersection_observer.specs.Places.{Standing, standing_of}
 use Rattle.intersection_observer.specs.Seen.{seen_finding}
@@ -18,11 +18,11 @@ use Rattle.kept_findings.specs.Held.{HeldFindings}
 use Rattle.kept_findings.specs.Views.{seen_for}
 
 -- the spots of an observer's root and of a target of it
-abbrev pub spots_of : IntersectionObservers → Standing → Spot × Spot
+abbrev pub spots_of : IntersectionObservers → Standing → Container × Container
 spots_of watchers it = (spot_of_root (intersection_observer_at watchers it.watcher).root, element_spot (it.target))
 
 -- those of a registration, none where none stands under this serial number
-abbrev pub spots_for : IntersectionObservers → ℕ → Option (Spot × Spot)
+abbrev pub spots_for : IntersectionObservers → ℕ → Option (Container × Container)
 spots_for watchers serial = option_map (spots_of watchers) (standing_of serial watchers)
 
 -- each registration that stands has a pair for its spots and was added, and no other number has either; and what was found last was found

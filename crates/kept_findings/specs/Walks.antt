@@ -3,7 +3,7 @@ use Rattle.std.specs.Prelude.{◌≡◌, ℕ, List, [], ◌∷◌, ◌++◌}
 use Rattle.std.specs.List.{AllByRecursion}
 use Rattle.script_model.specs.Margins.{Margins}
 use Rattle.page_model.specs.World.{Root, Finding, IntersectionObserver, IntersectionObservers}
-use Rattle.clip_chain.specs.declared.spot.Spot.{Spot}
+use Rattle.element_tree.specs.declared.container.Container.{Container}
 use Rattle.clip_chain.specs.Scenes.{Scene, through}
 use Rattle.clip_chain.specs.Chains.{Leads, IsAbove}
 use Rattle.clip_chain.specs.Worlds.{element_spot, spot_of_root}
@@ -17,11 +17,11 @@ use Rattle.candidate_index.specs.Findings.{finding_over}
 use Rattle.candidate_index.specs.Registrations.{observer_of, target_of, standing_for, IfChained}
 
 -- each spot of a chain, both ends included
-abbrev pub EachAlong : (Spot → Type 0) → Scene → Spot → Spot → Type 0
-EachAlong P scene of root = (between : List Spot) → Leads scene of between root → AllByRecursion P (of ∷ (between ++ root ∷ []))
+abbrev pub EachAlong : (Container → Type 0) → Scene → Container → Container → Type 0
+EachAlong P scene of root = (between : List Container) → Leads scene of between root → AllByRecursion P (of ∷ (between ++ root ∷ []))
 
 -- another spot
-abbrev pub IsNot : Spot → Spot → Type 0
+abbrev pub IsNot : Container → Container → Type 0
 IsNot spot other = ¬ other ≡ spot
 
 -- where a chain leads from a target to a root, by how it stands to it
@@ -29,7 +29,7 @@ abbrev pub AreChained : Scene → (Root → ℕ → Standing) → Type 0
 AreChained scene standings = (root : Root) (target : ℕ) → IfChained (standings root target) (IsAbove scene (spot_of_root root) (element_spot target))
 
 -- along the chain of a registration, if it leads to the root
-abbrev pub AlongChain : (Spot → Type 0) → Scene → (Root → ℕ → Standing) → IntersectionObservers → ℕ → Type 0
+abbrev pub AlongChain : (Container → Type 0) → Scene → (Root → ℕ → Standing) → IntersectionObservers → ℕ → Type 0
 AlongChain P scene standings it serial =
     IfChained (standing_for standings it serial)
     (EachAlong P scene (element_spot (target_of it serial)) (spot_of_root (observer_of it serial).root))
@@ -44,15 +44,15 @@ IsWalked scene standings it seen serial = AlongChain (AgreesAt (scene_seen seen)
 
 -- the spots strictly between, where a chain leads from a target to a root
 
-abbrev pub between_by : (s : Standing) (scene : Scene) (root target : Spot) → IfChained s (IsAbove scene root target) → List Spot
+abbrev pub between_by : (s : Standing) (scene : Scene) (root target : Container) → IfChained s (IsAbove scene root target) → List Container
 between_by Apart scene root target above = []
 between_by NoBox scene root target above = []
 between_by Chained scene root target above = above.0
 
-abbrev pub chain_between : (scene : Scene) (standings : Root → ℕ → Standing) → AreChained scene standings → Root → ℕ → List Spot
+abbrev pub chain_between : (scene : Scene) (standings : Root → ℕ → Standing) → AreChained scene standings → Root → ℕ → List Container
 chain_between scene standings chained root target = between_by (standings root target) scene (spot_of_root root) (element_spot target) (chained root target)
 
-abbrev pub spots_between : (scene : Scene) (standings : Root → ℕ → Standing) → AreChained scene standings → IntersectionObservers → ℕ → List Spot
+abbrev pub spots_between : (scene : Scene) (standings : Root → ℕ → Standing) → AreChained scene standings → IntersectionObservers → ℕ → List Container
 spots_between scene standings chained it serial = chain_between scene standings chained (observer_of it serial).root (target_of it serial)
 
 -- what an observer with these scroll margins finds of a target, as it is told

@@ -6,7 +6,7 @@ ghost use Rattle.std.specs.FinMap.{insert, contains_key};
 ghost use Rattle.script_model.specs.Margins.{Margins as ScrollMargins};
 ghost use Rattle.page_model.specs.World.{IntersectionObservers};
 ghost use Rattle.page_model.specs.Lookups.{intersection_observer_at, scroll_margins_at};
-ghost use Rattle.clip_chain.specs.declared.spot.Spot.{Spot as SpotOf};
+ghost use Rattle.element_tree.specs.declared.container.Container.{Container as ContainerOf};
 ghost use Rattle.clip_chain.specs.Scenes.{Scene as SceneOf, root_bounds};
 ghost use Rattle.clip_chain.specs.Worlds.{element_spot, spot_of_root};
 ghost use Rattle.intersection_observer.specs.Places.{IsStanding, standing_of};
@@ -27,8 +27,8 @@ ghost use Rattle.kept_findings.specs.Registered.{AreHeld, AreRegistered};
 use crate::Looks;
 use crate::seen_scene::SeenScene;
 use candidate_index::{Index, Scene, spot_of_root};
-use clip_chain::{Scrolls, Spot, Through};
-use element_tree::NodeId;
+use clip_chain::{Scrolls, Through};
+use element_tree::{Container, NodeId};
 use intersection_observer::{Finding, RegistrationId, Root, WatcherId, Watchers};
 use kept_clips::{Clips, Sightings};
 use std::alloc::{AllocError, Global};
@@ -63,7 +63,7 @@ impl Model for KeptFindings {
     ghost view = { λ f. record { seen = f.seen; clips = f.clips; kept = f.index } };
 }
 
-fn root_spot(watchers: &Watchers, watcher: WatcherId) -> Spot
+fn root_spot(watchers: &Watchers, watcher: WatcherId) -> Container
     requires { watcher.0 < length watchers.now.part.made }
     ensures { result ≡ spot_of_root (intersection_observer_at watchers.now.part watcher.0).root }
 {
@@ -114,14 +114,14 @@ impl KeptFindings {
     /// Where there is no memory to note what is looked at.
     pub fn looks(&self) -> Result<Looks, AllocError>
         ensures none { IfOk result (λ looks. looks ≡ no_looks self.now.seen) }
-        ensures known { IfOk result (λ looks. (scene : SceneOf) (rank : SpotOf → ℕ) → AreLooked scene rank self.now.seen looks) }
+        ensures known { IfOk result (λ looks. (scene : SceneOf) (rank : ContainerOf → ℕ) → AreLooked scene rank self.now.seen looks) }
     {
         Looks::new(self.alloc, &self.seen)
     }
 
     /// Makes room for what is seen of a spot. Where memory is refused there may be room for more all the same; nothing else changes in
     /// either case.
-    pub fn add(&mut self, of: Spot) -> Result<(), AllocError>
+    pub fn add(&mut self, of: Container) -> Result<(), AllocError>
         ensures roomier { IsRoomier self.old self.new }
         ensures room { OnOk result (MayBeSeen self.new.seen self.new.clips of) }
     {
@@ -144,7 +144,7 @@ impl KeptFindings {
         ensures same { OnErr result (self.new ≡ self.old) }
     {
         self.clips
-            .hold(registration.0, spot_of_root(root), Spot::Node(target))?;
+            .hold(registration.0, spot_of_root(root), Container::Element(target))?;
         if let Err(error) = self.index.add(registration) {
             self.clips.release(registration.0);
             return Err(error);
@@ -181,12 +181,12 @@ impl KeptFindings {
         requires held { AreHeld watchers.now.part scroll_margins.now self.old }
         requires known { AreLooked (S.scene scene.now) (S.rank scene.now) self.old.seen looks.now }
         requires walked { All (IsWalked (S.scene scene.now) (S.standings scene.now) watchers.now.part self.old.seen) (serials_at watchers.now.part watcher.0) }
-        ensures stale { (between : ℕ → List SpotOf) → All (IsBetween (S.scene scene.now) (S.standings scene.now) watchers.now.part between) (serials_at watchers.now.part watcher.0) →
+        ensures stale { (between : ℕ → List ContainerOf) → All (IsBetween (S.scene scene.now) (S.standings scene.now) watchers.now.part between) (serials_at watchers.now.part watcher.0) →
             IfOk result (λ stale. serial_numbers stale.items
             ≡ filter (λ serial. is_stale_now (seen_for watchers.now.part scroll_margins.now serial (S.scene scene.now)) (S.standings scene.now) watchers.now.part between self.old.kept serial) (serials_at watchers.now.part watcher.0)) }
-        ensures clips { (between : ℕ → List SpotOf) → All (IsBetween (S.scene scene.now) (S.standings scene.now) watchers.now.part between) (serials_at watchers.now.part watcher.0) →
+        ensures clips { (between : ℕ → List ContainerOf) → All (IsBetween (S.scene scene.now) (S.standings scene.now) watchers.now.part between) (serials_at watchers.now.part watcher.0) →
             OnOk result (self.new.clips ≡ all_asked (seen_by watchers.now.part scroll_margins.now watcher.0 (S.scene scene.now)) (S.standings scene.now) watchers.now.part between (serials_at watchers.now.part watcher.0) self.old.clips) }
-        ensures ticks { (between : ℕ → List SpotOf) → All (IsBetween (S.scene scene.now) (S.standings scene.now) watchers.now.part between) (serials_at watchers.now.part watcher.0) →
+        ensures ticks { (between : ℕ → List ContainerOf) → All (IsBetween (S.scene scene.now) (S.standings scene.now) watchers.now.part between) (serials_at watchers.now.part watcher.0) →
             OnOk result (steps.new ≡ steps.old + all_steps (seen_by watchers.now.part scroll_margins.now watcher.0 (S.scene scene.now)) (S.standings scene.now) watchers.now.part between (serials_at watchers.now.part watcher.0) self.old.clips) }
         ensures seen { self.new.seen ≡ self.old.seen }
         ensures kept { self.new.kept ≡ self.old.kept }
@@ -230,16 +230,16 @@ impl KeptFindings {
         requires held { AreHeld watchers.now.part scroll_margins.now self.old }
         requires known { AreLooked (S.scene scene.now) (S.rank scene.now) self.old.seen looks.now }
         requires walked { IsWalked (S.scene scene.now) (S.standings scene.now) watchers.now.part self.old.seen registration.0 }
-        ensures finding { (between : ℕ → List SpotOf) → IsBetween (S.scene scene.now) (S.standings scene.now) watchers.now.part between registration.0 →
+        ensures finding { (between : ℕ → List ContainerOf) → IsBetween (S.scene scene.now) (S.standings scene.now) watchers.now.part between registration.0 →
             seen_finding result ≡ finding_for (seen_for watchers.now.part scroll_margins.now registration.0 (S.scene scene.now)) (S.standings scene.now) watchers.now.part registration.0 (between registration.0) }
         ensures placed { IsPlaced (root_bounds (S.scene scene.now) (spot_of_root (observer_of watchers.now.part registration.0).root)) (seen_finding result) }
-        ensures clips { (between : ℕ → List SpotOf) → IsBetween (S.scene scene.now) (S.standings scene.now) watchers.now.part between registration.0 →
+        ensures clips { (between : ℕ → List ContainerOf) → IsBetween (S.scene scene.now) (S.standings scene.now) watchers.now.part between registration.0 →
             self.new.clips ≡ asked_for (seen_for watchers.now.part scroll_margins.now registration.0 (S.scene scene.now)) (S.standings scene.now) watchers.now.part between registration.0 self.old.clips }
-        ensures ticks { (between : ℕ → List SpotOf) → IsBetween (S.scene scene.now) (S.standings scene.now) watchers.now.part between registration.0 →
+        ensures ticks { (between : ℕ → List ContainerOf) → IsBetween (S.scene scene.now) (S.standings scene.now) watchers.now.part between registration.0 →
             steps.new ≡ steps.old + steps_for (seen_for watchers.now.part scroll_margins.now registration.0 (S.scene scene.now)) (S.standings scene.now) watchers.now.part between registration.0 self.old.clips + 1 }
         ensures seen { self.new.seen ≡ self.old.seen }
         ensures touches { self.new.clips.touches ≡ self.old.clips.touches }
-        ensures kept { (between : ℕ → List SpotOf) → IsBetween (S.scene scene.now) (S.standings scene.now) watchers.now.part between registration.0 →
+        ensures kept { (between : ℕ → List ContainerOf) → IsBetween (S.scene scene.now) (S.standings scene.now) watchers.now.part between registration.0 →
             self.new.kept ≡ insert self.old.kept registration.0 (Some (record { basis = basis_for (seen_for watchers.now.part scroll_margins.now registration.0 (S.scene scene.now)) (S.standings scene.now) watchers.now.part registration.0 (between registration.0); finding = result })) }
         ensures held { AreHeld watchers.now.part scroll_margins.now self.new }
         ensures known { AreLooked (S.scene scene.now) (S.rank scene.now) self.new.seen looks.now }

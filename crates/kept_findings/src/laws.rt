@@ -7,7 +7,7 @@ ghost use Rattle.script_model.specs.Margins.{Margins};
 ghost use Rattle.page_model.specs.World.{Root, Finding as ModelFinding, Registration, IntersectionObservers};
 ghost use Rattle.page_model.specs.Lookups.{intersection_observer_at, scroll_margins_at};
 ghost use Rattle.page_model.specs.IntersectionObserving.{is_registered, with_intersection_observer, with_registration, without_registration, without_queue};
-ghost use Rattle.clip_chain.specs.declared.spot.Spot.{Spot as SpotOf};
+ghost use Rattle.element_tree.specs.declared.container.Container.{Container as ContainerOf};
 ghost use Rattle.clip_chain.specs.Scenes.{Scene as SceneOf};
 ghost use Rattle.clip_chain.specs.Worlds.{element_spot, spot_of_root, view_spot};
 ghost use Rattle.intersection_observer.specs.Serials.{HasSerials, registrations_at};
@@ -47,11 +47,11 @@ pub fn settling_the_stale_ones_settles_all()
 /// The clips of several registrations that are asked for one after the other take no more steps than each alone would, and one that is
 /// asked for again takes none, unless as many touches were made as are counted.
 pub fn clips_that_are_asked_for_take_steps_once()
-    ensures together { (scene : SceneOf) (standings : Root → ℕ → StandingOf) (it : IntersectionObservers) (between : ℕ → List SpotOf) (serials : List ℕ) (clips : HeldClips) →
+    ensures together { (scene : SceneOf) (standings : Root → ℕ → StandingOf) (it : IntersectionObservers) (between : ℕ → List ContainerOf) (serials : List ℕ) (clips : HeldClips) →
         all_steps scene standings it between serials clips ≤ sum_by (λ serial. steps_for scene standings it between serial clips) serials }
-    ensures less { (scene : SceneOf) (standings : Root → ℕ → StandingOf) (it : IntersectionObservers) (between : ℕ → List SpotOf) (serial other : ℕ) (clips : HeldClips) →
+    ensures less { (scene : SceneOf) (standings : Root → ℕ → StandingOf) (it : IntersectionObservers) (between : ℕ → List ContainerOf) (serial other : ℕ) (clips : HeldClips) →
         steps_for scene standings it between other (asked_for scene standings it between serial clips) ≤ steps_for scene standings it between other clips }
-    ensures again { (scene : SceneOf) (standings : Root → ℕ → StandingOf) (it : IntersectionObservers) (between : ℕ → List SpotOf) (serial : ℕ) (clips : HeldClips) → AreNumbered clips →
+    ensures again { (scene : SceneOf) (standings : Root → ℕ → StandingOf) (it : IntersectionObservers) (between : ℕ → List ContainerOf) (serial : ℕ) (clips : HeldClips) → AreNumbered clips →
         clips.touches.count < last_number → steps_for scene standings it between serial (asked_for scene standings it between serial clips) ≡ 0 }
 {}
 
@@ -64,7 +64,7 @@ pub fn room_stays()
         HaveRoom elements documents it → HaveRoom (elements + 1) documents it }
     ensures document { (elements documents : ℕ) (it : HeldFindings) → MayBeSeen it.seen it.clips (view_spot documents) →
         HaveRoom elements documents it → HaveRoom elements (documents + 1) it }
-    ensures registered { (elements documents serial : ℕ) (root target : SpotOf) (it : HeldFindings) →
+    ensures registered { (elements documents serial : ℕ) (root target : ContainerOf) (it : HeldFindings) →
         HaveRoom elements documents it → HaveRoom elements documents (with_findings serial root target it) }
     ensures forgotten { (elements documents serial : ℕ) (it : HeldFindings) → HaveRoom elements documents it → HaveRoom elements documents (without_findings serial it) }
     ensures expired { (elements documents serial : ℕ) (it : HeldFindings) → HaveRoom elements documents it → HaveRoom elements documents (with_expired serial it) }

@@ -3,7 +3,7 @@
 ghost use Rattle.std.specs.Prelude.{◌≡◌, ◌⊎◌, ◌<◌, List, None, Some, length, IfSome};
 ghost use Rattle.std.specs.List.{All};
 ghost use Rattle.script_model.specs.Margins.{Margins as ScrollMargins};
-ghost use Rattle.clip_chain.specs.declared.spot.Spot.{Spot as SpotOf};
+ghost use Rattle.element_tree.specs.declared.container.Container.{Container as ContainerOf};
 ghost use Rattle.clip_chain.specs.Chains.{IsAbove};
 ghost use Rattle.intersection_observer.specs.Places.{IsStanding};
 ghost use Rattle.kept_clips.specs.Looked.{IsLeft, Looked, MayBeSeen};
@@ -15,20 +15,21 @@ ghost use Rattle.kept_findings.specs.Walks.{EachAlong, IsNot, AreChained, AlongC
 use crate::seen_scene::SeenScene;
 use crate::{KeptFindings, Looks};
 use candidate_index::{Scene, Standing, spot_of_root};
-use clip_chain::{Scrolls, Spot, container_below};
+use clip_chain::{Scrolls, container_below};
+use element_tree::Container;
 use intersection_observer::{RegistrationId, WatcherId, Watchers};
 
 impl KeptFindings {
     // Looks at a spot, unless it was looked at.
-    fn look_at<S: Scene + Scrolls>(&mut self, scene: &S, looks: &mut Looks, of: Spot)
+    fn look_at<S: Scene + Scrolls>(&mut self, scene: &S, looks: &mut Looks, of: Container)
         requires room { MayBeSeen self.old.seen self.old.clips of }
         requires known { AreLooked (S.scene scene.now) (S.rank scene.now) self.old.seen looks.old }
         ensures looked { Looked (S.scene scene.now) self.old.seen self.new.seen self.old.clips self.new.clips }
         ensures kept { self.new.kept ≡ self.old.kept }
         ensures known { AreLooked (S.scene scene.now) (S.rank scene.now) self.new.seen looks.new }
         ensures noted { IsNoted looks.new of }
-        ensures more { (other : SpotOf) → IsNoted looks.old other → IsNoted looks.new other }
-        ensures left { (spot : SpotOf) → (¬ of ≡ spot) → IsLeft self.old.seen self.new.seen self.old.clips.touches self.new.clips.touches spot }
+        ensures more { (other : ContainerOf) → IsNoted looks.old other → IsNoted looks.new other }
+        ensures left { (spot : ContainerOf) → (¬ of ≡ spot) → IsLeft self.old.seen self.new.seen self.old.clips.touches self.new.clips.touches spot }
     {
         if !looks.is_looked(of) {
             self.seen.look(&mut self.clips, scene, of);
@@ -41,9 +42,9 @@ impl KeptFindings {
         &self,
         scene: &S,
         looks: &Looks,
-        of: Spot,
-        root: Spot,
-    ) -> Option<Spot>
+        of: Container,
+        root: Container,
+    ) -> Option<Container>
         requires known { AreLooked (S.scene scene.now) (S.rank scene.now) self.now.seen looks.now }
         ensures next { IfSome result (λ next. ((S.scene scene.now).container of ≡ Some next) × (¬ next ≡ root)) }
         ensures none { result ≡ None → ((S.scene scene.now).container of ≡ None) ⊎ ((S.scene scene.now).container of ≡ Some root) }
@@ -58,7 +59,13 @@ impl KeptFindings {
     }
 
     // Looks at each spot of a chain, from a spot outwards to a root, these two included.
-    fn look_along<S: Scene + Scrolls>(&mut self, scene: &S, looks: &mut Looks, root: Spot, of: Spot)
+    fn look_along<S: Scene + Scrolls>(
+        &mut self,
+        scene: &S,
+        looks: &mut Looks,
+        root: Container,
+        of: Container,
+    )
         requires above { IsAbove (S.scene scene.now) root of }
         requires room { EachAlong (MayBeSeen self.old.seen self.old.clips) (S.scene scene.now) of root }
         requires known { AreLooked (S.scene scene.now) (S.rank scene.now) self.old.seen looks.old }
@@ -66,8 +73,8 @@ impl KeptFindings {
         ensures kept { self.new.kept ≡ self.old.kept }
         ensures known { AreLooked (S.scene scene.now) (S.rank scene.now) self.new.seen looks.new }
         ensures noted { EachAlong (IsNoted looks.new) (S.scene scene.now) of root }
-        ensures more { (other : SpotOf) → IsNoted looks.old other → IsNoted looks.new other }
-        ensures left { (spot : SpotOf) → EachAlong (IsNot spot) (S.scene scene.now) of root → IsLeft self.old.seen self.new.seen self.old.clips.touches self.new.clips.touches spot }
+        ensures more { (other : ContainerOf) → IsNoted looks.old other → IsNoted looks.new other }
+        ensures left { (spot : ContainerOf) → EachAlong (IsNot spot) (S.scene scene.now) of root → IsLeft self.old.seen self.new.seen self.old.clips.touches self.new.clips.touches spot }
     {
         self.look_at(scene, looks, of);
         self.look_at(scene, looks, root);
@@ -94,8 +101,8 @@ impl KeptFindings {
         ensures kept { self.new.kept ≡ self.old.kept }
         ensures known { AreLooked (S.scene scene.now) (S.rank scene.now) self.new.seen looks.new }
         ensures noted { AlongChain (IsNoted looks.new) (S.scene scene.now) (S.standings scene.now) watchers.now.part registration.0 }
-        ensures more { (other : SpotOf) → IsNoted looks.old other → IsNoted looks.new other }
-        ensures left { (spot : SpotOf) → AlongChain (IsNot spot) (S.scene scene.now) (S.standings scene.now) watchers.now.part registration.0 →
+        ensures more { (other : ContainerOf) → IsNoted looks.old other → IsNoted looks.new other }
+        ensures left { (spot : ContainerOf) → AlongChain (IsNot spot) (S.scene scene.now) (S.standings scene.now) watchers.now.part registration.0 →
             IsLeft self.old.seen self.new.seen self.old.clips.touches self.new.clips.touches spot }
     {
         let root = watchers.root_of(watchers.watcher_of(registration));
@@ -103,7 +110,7 @@ impl KeptFindings {
         let Standing::Chained = scene.standing(root, target) else {
             return;
         };
-        self.look_along(scene, looks, spot_of_root(root), Spot::Node(target));
+        self.look_along(scene, looks, spot_of_root(root), Container::Element(target));
     }
 
     /// Looks at each spot on the chains of an observer's registrations that wasn't looked at yet, both ends included: it is touched where
@@ -127,7 +134,7 @@ impl KeptFindings {
         ensures known { AreLooked (S.scene scene.now) (S.rank scene.now) self.new.seen looks.new }
         ensures noted { All (AlongChain (IsNoted looks.new) (S.scene scene.now) (S.standings scene.now) watchers.now.part) (serials_at watchers.now.part watcher.0) }
         ensures walked { All (IsWalked (S.scene scene.now) (S.standings scene.now) watchers.now.part self.new.seen) (serials_at watchers.now.part watcher.0) }
-        ensures left { (spot : SpotOf) → All (AlongChain (IsNot spot) (S.scene scene.now) (S.standings scene.now) watchers.now.part) (serials_at watchers.now.part watcher.0) →
+        ensures left { (spot : ContainerOf) → All (AlongChain (IsNot spot) (S.scene scene.now) (S.standings scene.now) watchers.now.part) (serials_at watchers.now.part watcher.0) →
             IsLeft self.old.seen self.new.seen self.old.clips.touches self.new.clips.touches spot }
         ensures registered { (margins : List ScrollMargins) → AreRegistered watchers.now.part margins self.old → AreRegistered watchers.now.part margins self.new }
     {

@@ -4,7 +4,7 @@ ghost use Rattle.std.specs.Prelude.{◌≡◌, false, IfOk};
 ghost use Rattle.std.specs.List.{slice_index_or};
 ghost use Rattle.kept_findings.specs.Looks.{is_looked, HasPlace, no_looks, noted};
 
-use clip_chain::Spot;
+use element_tree::Container;
 use kept_clips::Sightings;
 use std::alloc::{AllocError, Global};
 use std::marker::Model;
@@ -36,22 +36,22 @@ impl Looks {
     }
 
     /// Whether a spot was looked at.
-    pub fn is_looked(&self, of: Spot) -> bool
+    pub fn is_looked(&self, of: Container) -> bool
         ensures { result ≡ is_looked self.now of }
     {
         match of {
-            Spot::Node(node) => is_marked(self.nodes.as_slice(), node.0),
-            Spot::View(document) => is_marked(self.views.as_slice(), document.0),
+            Container::Element(node) => is_marked(self.nodes.as_slice(), node.0),
+            Container::Document(document) => is_marked(self.views.as_slice(), document.0),
         }
     }
 
-    pub(crate) fn note(&mut self, of: Spot)
+    pub(crate) fn note(&mut self, of: Container)
         requires { HasPlace self.old of }
         ensures { self.new ≡ noted of self.old }
     {
         match of {
-            Spot::Node(node) => self.nodes[node.0 as usize] = true,
-            Spot::View(document) => self.views[document.0 as usize] = true,
+            Container::Element(node) => self.nodes[node.0 as usize] = true,
+            Container::Document(document) => self.views[document.0 as usize] = true,
         }
     }
 }

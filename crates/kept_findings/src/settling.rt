@@ -3,7 +3,7 @@
 ghost use Rattle.std.specs.Prelude.{◌≡◌, ◌+◌, ◌<◌, ℕ, List, true, false, Some, None, length, IfOk, OnOk, OnErr};
 ghost use Rattle.std.specs.FinMap.{insert};
 ghost use Rattle.page_model.specs.Lookups.{intersection_observer_at, scroll_margins_at};
-ghost use Rattle.clip_chain.specs.declared.spot.Spot.{Spot as SpotOf};
+ghost use Rattle.element_tree.specs.declared.container.Container.{Container as ContainerOf};
 ghost use Rattle.clip_chain.specs.Scenes.{root_bounds};
 ghost use Rattle.clip_chain.specs.Worlds.{spot_of_root};
 ghost use Rattle.intersection_observer.specs.declared.entry.Finding.{Finding as FindingOf};
@@ -85,11 +85,11 @@ impl KeptFindings {
             seen_finding result ≡ found_in (S.scene scene.now) (S.standings scene.now) chained (S.telling scene.now) (scroll_margins_at scroll_margins.now watcher.0) (intersection_observer_at watchers.now.part watcher.0) (target_of watchers.now.part registration.0) }
         ensures reach { S.reaches (seen_finding result) }
         ensures kept { (found : FindingOf) × ((found.index ≡ result.index) × (found.meets ≡ result.meets)
-            × ((between : ℕ → List SpotOf) → IsBetween (S.scene scene.now) (S.standings scene.now) watchers.now.part between registration.0 →
+            × ((between : ℕ → List ContainerOf) → IsBetween (S.scene scene.now) (S.standings scene.now) watchers.now.part between registration.0 →
             self.new.kept ≡ insert self.old.kept registration.0 (Some (record { basis = basis_for (seen_for watchers.now.part scroll_margins.now registration.0 (S.scene scene.now)) (S.standings scene.now) watchers.now.part registration.0 (between registration.0); finding = found })))) }
-        ensures clips { (between : ℕ → List SpotOf) → IsBetween (S.scene scene.now) (S.standings scene.now) watchers.now.part between registration.0 →
+        ensures clips { (between : ℕ → List ContainerOf) → IsBetween (S.scene scene.now) (S.standings scene.now) watchers.now.part between registration.0 →
             self.new.clips ≡ asked_for (seen_for watchers.now.part scroll_margins.now registration.0 (S.scene scene.now)) (S.standings scene.now) watchers.now.part between registration.0 self.old.clips }
-        ensures ticks { (between : ℕ → List SpotOf) → IsBetween (S.scene scene.now) (S.standings scene.now) watchers.now.part between registration.0 →
+        ensures ticks { (between : ℕ → List ContainerOf) → IsBetween (S.scene scene.now) (S.standings scene.now) watchers.now.part between registration.0 →
             steps.new ≡ steps.old + steps_for (seen_for watchers.now.part scroll_margins.now registration.0 (S.scene scene.now)) (S.standings scene.now) watchers.now.part between registration.0 self.old.clips + 1 }
         ensures held { AreHeld watchers.now.part scroll_margins.now self.new }
         ensures seen { self.new.seen ≡ self.old.seen }
@@ -136,12 +136,12 @@ impl KeptFindings {
             S.reaches (found_in (S.scene scene.now) (S.standings scene.now) chained (S.telling scene.now) (scroll_margins_at scroll_margins.now watcher.0) (intersection_observer_at watchers.old.part watcher.0) (target_of watchers.old.part registration.0)) }
         ensures same { OnErr result (watchers.new ≡ watchers.old) }
         ensures expired { OnErr result (kept_of self.new.kept registration.0 ≡ None) }
-        ensures fresh { (between : ℕ → List SpotOf) → IsBetween (S.scene scene.now) (S.standings scene.now) watchers.old.part between registration.0 →
+        ensures fresh { (between : ℕ → List ContainerOf) → IsBetween (S.scene scene.now) (S.standings scene.now) watchers.old.part between registration.0 →
             OnOk result (is_stale_now (seen_for watchers.old.part scroll_margins.now registration.0 (S.scene scene.now)) (S.standings scene.now) watchers.old.part between self.new.kept registration.0 ≡ false) }
         ensures others { (serial : ℕ) → (¬ serial ≡ registration.0) → kept_of self.new.kept serial ≡ kept_of self.old.kept serial }
-        ensures clips { (between : ℕ → List SpotOf) → IsBetween (S.scene scene.now) (S.standings scene.now) watchers.old.part between registration.0 →
+        ensures clips { (between : ℕ → List ContainerOf) → IsBetween (S.scene scene.now) (S.standings scene.now) watchers.old.part between registration.0 →
             self.new.clips ≡ asked_for (seen_for watchers.old.part scroll_margins.now registration.0 (S.scene scene.now)) (S.standings scene.now) watchers.old.part between registration.0 self.old.clips }
-        ensures ticks { (between : ℕ → List SpotOf) → IsBetween (S.scene scene.now) (S.standings scene.now) watchers.old.part between registration.0 →
+        ensures ticks { (between : ℕ → List ContainerOf) → IsBetween (S.scene scene.now) (S.standings scene.now) watchers.old.part between registration.0 →
             steps.new ≡ steps.old + steps_for (seen_for watchers.old.part scroll_margins.now registration.0 (S.scene scene.now)) (S.standings scene.now) watchers.old.part between registration.0 self.old.clips + 1 }
         ensures registered { AreRegistered watchers.new.part scroll_margins.now self.new }
         ensures seen { self.new.seen ≡ self.old.seen }

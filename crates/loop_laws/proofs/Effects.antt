@@ -4,8 +4,8 @@ use Rattle.std.proofs.Common.{◌≡◌, ◌≢◌, refl, sym, subst, ◌∙◌,
 use Rattle.std.specs.Prelude.{ℕ, zero, suc, List, [], ◌∷◌, ◌++◌, length, Option, Some, None, ℤ, ⊤}
 use Rattle.layout_model.specs.Items.{Kind, Item}
 use Rattle.script_model.specs.Syntax.{Dimension, Operand, Action, Append, Before, Remove, Grow, Load, MakeResizeObserver, ObserveResize, UnobserveResize, DisconnectResize}
-use Rattle.page_model.specs.World.{Element, Observation, ResizeObservers, ScrollTarget, Task, Tree, Name, World}
-use Rattle.page_model.specs.Documents.{Container, InElement, InDocument, container_of, removed, linked, inserted, adopted, shown, inclusive_descendants}
+use Rattle.page_model.specs.World.{Element, Observation, ResizeObservers, Container, Task, Tree, Name, World, InElement, InDocument}
+use Rattle.page_model.specs.Documents.{container_of, removed, linked, inserted, adopted, shown, inclusive_descendants}
 use Rattle.page_model.specs.Edits.{with_element, with_frame, change_item}
 use Rattle.page_model.specs.Scrolling.{scrolled_to, scrolled_by}
 use Rattle.page_model.specs.Steps.{Step, Did, Threw, Met, Effect}
@@ -136,11 +136,11 @@ module _ (P : Observation → Type 0) (document : ℕ) (Spared : ℕ → Type 0)
   unfolding with_tree
   tree-step step kept = bind-in step _ _ Done kept (λ tree is. did _ Done (tree-done (world.names) tree is))
 
-  scrolled-done : (left top : ℤ) (target : Option ScrollTarget) → IsDone P document Spared world (scrolled_to left top target world)
+  scrolled-done : (left top : ℤ) (target : Option Container) → IsDone P document Spared world (scrolled_to left top target world)
   scrolled-done left top None = alike _ refl refl refl
   scrolled-done left top (Some target) = alike _ refl refl refl
 
-  scrolled-by-done : (left top : ℤ) (target : Option ScrollTarget) → IsDone P document Spared world (scrolled_by left top target world)
+  scrolled-by-done : (left top : ℤ) (target : Option Container) → IsDone P document Spared world (scrolled_by left top target world)
   scrolled-by-done left top None = alike _ refl refl refl
   scrolled-by-done left top (Some target) = alike _ refl refl refl
 

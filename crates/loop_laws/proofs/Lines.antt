@@ -5,8 +5,7 @@ use Rattle.std.specs.List.{AllByRecursion}
 use Rattle.text_io.specs.declared.kinds.Version.{Version}
 use Rattle.script_model.specs.Syntax.{Action, Say, Read, TakeIntersections}
 use Rattle.script_model.specs.TraceLines.{TraceLine}
-use Rattle.page_model.specs.World.{Name, Entry, World}
-use Rattle.page_model.specs.Documents.{Container, InElement, InDocument}
+use Rattle.page_model.specs.World.{Name, Entry, World, Container, InElement, InDocument}
 use Rattle.page_model.specs.Gathering.{SizeEntry}
 use Rattle.page_model.specs.EntryLines.{intersection_line, intersection_lines}
 use Rattle.page_model.specs.Steps.{Effect}

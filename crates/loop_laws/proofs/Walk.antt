@@ -12,7 +12,7 @@ use Rattle.script_model.specs.TraceLines.{TraceLine, FiredEvent, FiredResize, Fi
 use Rattle.page_model.specs.World.{World, Tree, Entry, EventTarget, DocumentTarget, WindowTarget, QueryTarget, IntersectionObservers, Observation, Task, Notify, Posted, Timer, FrameCallback}
 use Rattle.page_model.specs.Lookups.{resize_observer_at, intersection_observer_at, query_list_at}
 use Rattle.page_model.specs.Documents.{is_active, active_documents}
-use Rattle.page_model.specs.Names.{document_text, query_list_text}
+use Rattle.page_model.specs.Names.{document_text, query_list_text, container_text}
 use Rattle.page_model.specs.PageBoxes.{viewport_of}
 use Rattle.page_model.specs.Viewports.{differs_from, noted_size, with_noted}
 use Rattle.page_model.specs.Scrolls.{pending_of, without_pending}
@@ -30,7 +30,7 @@ use Rattle.page_model.specs.Callbacks.{Script, handler_names, handler_block, han
 use Rattle.page_model.specs.Intersections.{is_same_bool, settling, found_now, watchers, with_notify_task, has_queued, update_intersections, take_queue, notify_watcher, notify_watchers, notify}
 use Rattle.page_model.specs.Gathering.{sight_of, size_entry, with_reported, without_active, has_skipped, due_at}
 use Rattle.page_model.specs.Loop.{Broadcast, gather, deliver_some, broadcast, round, round_ended, report_skipped, resize_loop}
-use Rattle.page_model.specs.Ticks.{line_while_active, scrolled_text, event_target_of, intersection_steps, run_timers, run_timer, resize_steps, scroll_steps, evaluated, evaluate, media_steps, frame_steps, run_frame_callback, update_rendering, run_first, run_tasks, time_set, tick}
+use Rattle.page_model.specs.Ticks.{line_while_active, event_target_of, intersection_steps, run_timers, run_timer, resize_steps, scroll_steps, evaluated, evaluate, media_steps, frame_steps, run_frame_callback, update_rendering, run_first, run_tasks, time_set, tick}
 use Rattle.page_model.specs.Outcome.{run_item}
 use Rattle.page_laws.specs.Successors.{OnDid}
 use Rattle.page_laws.proofs.Steps.{did, room-then, on_did-all}
@@ -452,11 +452,11 @@ module _ (script : Script) (P : World → Type 0) (In : ℕ → Present → Type
       let now = record world { scrolls = without_pending document (world.scrolls) } in
       from world now (scroll_steps script document world) (pending-next world document) refl
       (each-fine
-      (λ target. while_active document (λ now. fire script (FiredScroll (scrolled_text (now.names) target)) (event_target_of target) events.Scroll now))
+      (λ target. while_active document (λ now. fire script (FiredScroll (container_text (now.names) target)) (event_target_of target) events.Scroll now))
       (pending_of document (world.scrolls))
-      (λ target now. if-fine (λ now. fire script (FiredScroll (scrolled_text (now.names) target)) (event_target_of target) events.Scroll now) now
+      (λ target now. if-fine (λ now. fire script (FiredScroll (container_text (now.names) target)) (event_target_of target) events.Scroll now) now
       (is_active (now.tree) document)
-      (λ is. fire-fine (FiredScroll (scrolled_text (now.names) target)) (event_target_of target) events.Scroll (told.plain _ refl) now)) now)
+      (λ is. fire-fine (FiredScroll (container_text (now.names) target)) (event_target_of target) events.Scroll (told.plain _ refl) now)) now)
 
   evaluated-fine : (query : ℕ) (matched : Bool) (world : World) → Fine world (evaluated script query matched world)
   evaluated-fine query matched world =

@@ -7,7 +7,7 @@ use Rattle.layout_model.specs.Items.{Kind}
 use Rattle.layout_model.specs.Boxes.{Box}
 use Rattle.script_model.specs.Syntax.{Action, Viewport, SetRatio, Append, Before, Remove, SetStyle, Grow, Load, MakeResizeObserver, ObserveResize, UnobserveResize, DisconnectResize}
 use Rattle.script_model.specs.TraceLines.{TraceLine}
-use Rattle.page_model.specs.World.{Screen, Observation, ResizeObserver, ResizeObservers, ScrollTarget, Tree, World, Document}
+use Rattle.page_model.specs.World.{Screen, Observation, ResizeObserver, ResizeObservers, Container, Tree, World, Document}
 use Rattle.page_model.specs.Lookups.{resize_observer_at, entry_or, no_document}
 use Rattle.page_model.specs.Documents.{is_active, is_active_state}
 use Rattle.page_model.specs.Edits.{with_element, with_frame, new_document}
@@ -145,11 +145,11 @@ module _ (P : ℕ → List Observation → Observation → Type 0) (document : �
       observers-calm _ (λ o pass. changed-at (Passes (P o) document) (λ each. record each { targets = []; active = [] }) (λ it passes own. tt) observer o
       (world.resize_observers.made) pass)
 
-  scrolled-calm : (left top : ℤ) (target : Option ScrollTarget) → Calm P document world (scrolled_to left top target world)
+  scrolled-calm : (left top : ℤ) (target : Option Container) → Calm P document world (scrolled_to left top target world)
   scrolled-calm left top None = here
   scrolled-calm left top (Some target) = here
 
-  scrolled-by-calm : (left top : ℤ) (target : Option ScrollTarget) → Calm P document world (scrolled_by left top target world)
+  scrolled-by-calm : (left top : ℤ) (target : Option Container) → Calm P document world (scrolled_by left top target world)
   scrolled-by-calm left top None = here
   scrolled-by-calm left top (Some target) = here
 

@@ -6,7 +6,7 @@ use Rattle.std.specs.Prelude.{ℕ, ℤ, zero, suc, Bool, true, false, List, [], 
 use Rattle.std.specs.List.{AllByRecursion}
 use Rattle.text_io.specs.declared.kinds.ThrowKind.TheVariants.{ReferenceError}
 use Rattle.script_model.specs.Syntax.{Action, MakeResizeObserver, ObserveResize, UnobserveResize, DisconnectResize}
-use Rattle.page_model.specs.World.{ResizeObserver, ResizeObservers, ScrollTarget, World}
+use Rattle.page_model.specs.World.{ResizeObserver, ResizeObservers, Container, World}
 use Rattle.page_model.specs.Lookups.{change_at, resize_observer_at, no_resize_observer}
 use Rattle.page_model.specs.Gathering.{Sight, gathered_if, is_of, gathering}
 use Rattle.page_model.specs.Steps.{Effect}
@@ -91,11 +91,11 @@ module _ (test : Action → Bool) (unnamed : List ℕ → Bool) where
         abbrev Done : Effect → Type 0
         Done effect = AreTame (effect.world.resize_observers)
 
-        scrolled-tame : (left top : ℤ) (target : Option ScrollTarget) → AreTame (scrolled_to left top target world).resize_observers
+        scrolled-tame : (left top : ℤ) (target : Option Container) → AreTame (scrolled_to left top target world).resize_observers
         scrolled-tame left top None = here
         scrolled-tame left top (Some target) = here
 
-        scrolled-by-tame : (left top : ℤ) (target : Option ScrollTarget) → AreTame (scrolled_by left top target world).resize_observers
+        scrolled-by-tame : (left top : ℤ) (target : Option Container) → AreTame (scrolled_by left top target world).resize_observers
         scrolled-by-tame left top None = here
         scrolled-by-tame left top (Some target) = here
 

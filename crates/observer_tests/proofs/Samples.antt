@@ -3,7 +3,7 @@ use Rattle.std.proofs.Common.{◌≡◌, ◌∙◌, ◌⊎◌, ℕ, ◌+◌, ◌
 use Rattle.std.specs.List.{All}
 use Rattle.std.proofs.Math.ListN.{get_or-map}
 use Rattle.std.proofs.lemmas.List.{length-map, get_or_default}
-use Rattle.clip_chain.specs.declared.spot.Spot.{Spot}
+use Rattle.element_tree.specs.declared.container.Container.{Container}
 use Rattle.clip_chain.specs.Chains.{Leads}
 use Rattle.intersection_observer.specs.Seen.{serial_numbers}
 use Rattle.intersection_observer.specs.declared.registration.RegistrationId.{RegistrationId}
@@ -15,7 +15,7 @@ use Rattle.observer_tests.specs.Sample.{Sides, sample, AreExact}
 
 -- clips don't hang on boxes
 
-leads_still : (clips : List (Option Sides)) (boxes others : List Sides) (view : Sides) (from root : Spot) (between : List Spot) → Leads (sample clips others view) from between root → Leads (sample clips boxes view) from between root
+leads_still : (clips : List (Option Sides)) (boxes others : List Sides) (view : Sides) (from root : Container) (between : List Container) → Leads (sample clips others view) from between root → Leads (sample clips boxes view) from between root
 leads_still clips boxes others view from root [] h = h
 leads_still clips boxes others view from root (next ∷ more) h = (h.0, h.1, leads_still clips boxes others view next root more h.2)
 

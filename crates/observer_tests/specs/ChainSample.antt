@@ -2,20 +2,20 @@
 use Rattle.std.specs.Prelude.{ℕ, Bool, true, false, cond, ◌==◌, pos, Option, Some, None}
 use Rattle.px_units.specs.declared.Rect.{Rect}
 use Rattle.page_model.specs.Chains.{zero_rect}
-use Rattle.clip_chain.specs.declared.spot.Spot.{Spot}
-use Rattle.clip_chain.specs.declared.spot.Spot.TheVariants.{Node, View}
+use Rattle.element_tree.specs.declared.container.Container.{Container}
+use Rattle.element_tree.specs.declared.container.Container.TheVariants.{Element, Document}
 use Rattle.clip_chain.specs.Scenes.{Scene}
 use Rattle.clip_chain.specs.Worlds.{view_spot}
 
 abbrev pub sides : ℕ → ℕ → ℕ → ℕ → Rect
 sides left top right bottom = record { left = pos left; top = pos top; right = pos right; bottom = pos bottom }
 
-abbrev pub element : ℕ → Spot
-element number = Node (record { 0 = number })
+abbrev pub element : ℕ → Container
+element number = Element (record { 0 = number })
 
-abbrev pub sample_container : Spot → Option Spot
-sample_container (View document) = cond (document.0 == 1) (Some (element 2)) None
-sample_container (Node node) =
+abbrev pub sample_container : Container → Option Container
+sample_container (Document document) = cond (document.0 == 1) (Some (element 2)) None
+sample_container (Element node) =
     cond
     (node.0 == 0)
     (Some (view_spot 0))
@@ -36,18 +36,18 @@ sample_container (Node node) =
     (Some (element 4))
     (cond (node.0 == 6) (Some (element 5)) (cond (node.0 == 7) (Some (element 1)) (cond (node.0 == 8) (Some (element 1)) None))))))))
 
-abbrev pub sample_clip : Spot → Option Rect
-sample_clip (View document) =
+abbrev pub sample_clip : Container → Option Rect
+sample_clip (Document document) =
     cond (document.0 == 0) (Some (sides 0 0 800 600)) (cond (document.0 == 1) (Some (sides 100 200 400 500)) None)
-sample_clip (Node node) =
+sample_clip (Element node) =
     cond
     (node.0 == 1)
     (Some (sides 10 20 410 320))
     (cond (node.0 == 4) (Some (sides 120 160 380 460)) (cond (node.0 == 6) (Some (sides 131 181 140 190)) None))
 
-abbrev pub sample_bounds : Spot → Rect
-sample_bounds (View document) = cond (document.0 == 0) (sides 0 0 800 600) (cond (document.0 == 1) (sides 100 200 400 500) zero_rect)
-sample_bounds (Node node) =
+abbrev pub sample_bounds : Container → Rect
+sample_bounds (Document document) = cond (document.0 == 0) (sides 0 0 800 600) (cond (document.0 == 1) (sides 100 200 400 500) zero_rect)
+sample_bounds (Element node) =
     cond
     (node.0 == 0)
     (sides 0 0 800 2000)
@@ -71,9 +71,9 @@ sample_bounds (Node node) =
     (sides 130 180 600 340)
     (cond (node.0 == 7) (sides 410 50 500 100) (cond (node.0 == 8) (sides 411 50 500 100) zero_rect))))))))
 
-abbrev pub sample_scrolls : Spot → Bool
-sample_scrolls (View document) = false
-sample_scrolls (Node node) = cond (node.0 == 1) true (cond (node.0 == 4) true (cond (node.0 == 6) true false))
+abbrev pub sample_scrolls : Container → Bool
+sample_scrolls (Document document) = false
+sample_scrolls (Element node) = cond (node.0 == 1) true (cond (node.0 == 4) true (cond (node.0 == 6) true false))
 
 abbrev pub sample : Scene
 sample = record {
@@ -85,9 +85,9 @@ sample = record {
 }
 
 -- how far each stands within the top document
-abbrev pub sample_rank : Spot → ℕ
-sample_rank (View document) = cond (document.0 == 1) 4 0
-sample_rank (Node node) =
+abbrev pub sample_rank : Container → ℕ
+sample_rank (Document document) = cond (document.0 == 1) 4 0
+sample_rank (Element node) =
     cond
     (node.0 == 0)
     1

@@ -3,8 +3,8 @@
 use Rattle.std.specs.Prelude.{ℕ, false, suc, ◌+◌, ◌/◌, cond, ◌==◌, pos, List, Option, Some, None, option_map}
 use Rattle.std.specs.List.{slice_index_or}
 use Rattle.px_units.specs.declared.Rect.{Rect}
-use Rattle.clip_chain.specs.declared.spot.Spot.{Spot}
-use Rattle.clip_chain.specs.declared.spot.Spot.TheVariants.{Node, View}
+use Rattle.element_tree.specs.declared.container.Container.{Container}
+use Rattle.element_tree.specs.declared.container.Container.TheVariants.{Element, Document}
 use Rattle.clip_chain.specs.Scenes.{Scene}
 use Rattle.clip_chain.specs.Worlds.{element_spot, view_spot}
 use Rattle.kept_clips.specs.Held.{HeldClips}
@@ -24,21 +24,21 @@ rect_of (left, top, width, height) = record {
   bottom = pos (top + height);
 }
 
-abbrev pub sample_container : Spot → Option Spot
-sample_container (View document) = None
-sample_container (Node node) = cond (node.0 == 0) (Some (view_spot 0)) (Some (element_spot (node.0 / 2)))
+abbrev pub sample_container : Container → Option Container
+sample_container (Document document) = None
+sample_container (Element node) = cond (node.0 == 0) (Some (view_spot 0)) (Some (element_spot (node.0 / 2)))
 
-abbrev pub sample_rank : Spot → ℕ
-sample_rank (View document) = 0
-sample_rank (Node node) = suc node.0
+abbrev pub sample_rank : Container → ℕ
+sample_rank (Document document) = 0
+sample_rank (Element node) = suc node.0
 
-abbrev pub sample_clip : List (Option Sides) → Sides → Spot → Option Rect
-sample_clip clips view (View document) = cond (document.0 == 0) (Some (rect_of view)) None
-sample_clip clips view (Node node) = option_map rect_of (slice_index_or clips node.0 None)
+abbrev pub sample_clip : List (Option Sides) → Sides → Container → Option Rect
+sample_clip clips view (Document document) = cond (document.0 == 0) (Some (rect_of view)) None
+sample_clip clips view (Element node) = option_map rect_of (slice_index_or clips node.0 None)
 
-abbrev pub sample_box : List Sides → Sides → Spot → Rect
-sample_box boxes view (View document) = rect_of view
-sample_box boxes view (Node node) = rect_of (slice_index_or boxes node.0 (0, 0, 0, 0))
+abbrev pub sample_box : List Sides → Sides → Container → Rect
+sample_box boxes view (Document document) = rect_of view
+sample_box boxes view (Element node) = rect_of (slice_index_or boxes node.0 (0, 0, 0, 0))
 
 -- by what the elements clip to, their boxes and the viewport
 abbrev pub sample : List (Option Sides) → List Sides → Sides → Scene

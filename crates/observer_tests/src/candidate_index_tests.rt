@@ -3,7 +3,7 @@
 ghost use Rattle.std.specs.Prelude.{◌≡◌, ◌<◌, ◌+◌, length, IfOk, OnOk};
 ghost use Rattle.std.specs.List.{All};
 ghost use Rattle.clip_chain.specs.Worlds.{element_spot, spot_of_root};
-ghost use Rattle.clip_chain.specs.declared.spot.Spot.{Spot as SpotOf};
+ghost use Rattle.element_tree.specs.declared.container.Container.{Container as ContainerOf};
 ghost use Rattle.clip_chain.specs.Scenes.{Scene as SceneOf};
 ghost use Rattle.intersection_observer.specs.Places.{IsStanding};
 ghost use Rattle.candidate_index.specs.Registrations.{observer_of, target_of, serials_at, IsReady};
@@ -11,8 +11,8 @@ ghost use Rattle.observer_tests.specs.Sample.{sample, sample_standing, AreExact}
 
 use crate::common::{Page, Sides, change_clip, change_view, node, rect};
 use candidate_index::{Index, Standing, spot_of_root};
-use clip_chain::{Spot, reaches};
-use element_tree::{DocumentId, NodeId};
+use clip_chain::reaches;
+use element_tree::{Container, DocumentId, NodeId};
 use intersection_observer::{Finding, RegistrationId, Root, WatcherId, Watchers};
 use kept_clips::Clips;
 use std::alloc::Global;
@@ -31,10 +31,10 @@ const SECOND: WatcherId = WatcherId(1);
 
 // The registrations with their roots and targets: two of an observer of the top document, whose root is moved out by 64
 // units, and one of an observer of element 1.
-const REGISTRATIONS: [(u64, Spot, Spot); 3] = [
-    (0, Spot::View(DocumentId(0)), Spot::Node(NodeId(7))),
-    (1, Spot::View(DocumentId(0)), Spot::Node(NodeId(4))),
-    (2, Spot::Node(NodeId(1)), Spot::Node(NodeId(6))),
+const REGISTRATIONS: [(u64, Container, Container); 3] = [
+    (0, Container::Document(DocumentId(0)), Container::Element(NodeId(7))),
+    (1, Container::Document(DocumentId(0)), Container::Element(NodeId(4))),
+    (2, Container::Element(NodeId(1)), Container::Element(NodeId(6))),
 ];
 
 // The root rectangle with its margins, and within a narrow viewport; the root of the second observer.
@@ -165,13 +165,13 @@ fn make_two(alloc: Global, watchers: &mut Watchers) -> Result<(), Fail>
 }
 
 // The spots of an observer's root and of a target.
-fn spots_of(watchers: &Watchers, registration: RegistrationId) -> (Spot, Spot)
+fn spots_of(watchers: &Watchers, registration: RegistrationId) -> (Container, Container)
     requires { IsStanding registration.0 watchers.now.part }
     ensures root { result.0 ≡ spot_of_root (observer_of watchers.now.part registration.0).root }
     ensures target { result.1 ≡ element_spot (target_of watchers.now.part registration.0) }
 {
     let watcher = watchers.watcher_of(registration);
-    let target = Spot::Node(watchers.target_of(registration));
+    let target = Container::Element(watchers.target_of(registration));
     (spot_of_root(watchers.root_of(watcher)), target)
 }
 
@@ -352,7 +352,7 @@ fn hold_pairs(rt: &impl Abort, clips: &mut Clips, index: &mut Index) -> Result<(
     ensures { (scene : SceneOf) → AreExact scene clips.old → AreExact scene clips.new }
 {
     clips.add(node(7))?;
-    clips.add(Spot::View(DocumentId(0)))?;
+    clips.add(Container::Document(DocumentId(0)))?;
     for (number, root, of) in REGISTRATIONS {
         index.add(RegistrationId(number))?;
         assert!(rt; clips.pair(number).is_none());

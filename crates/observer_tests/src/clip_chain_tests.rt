@@ -3,15 +3,15 @@
 ghost use Rattle.std.specs.Prelude.{◌≡◌, pos, Some};
 ghost use Rattle.observer_tests.specs.ChainSample.{sides, element};
 
-use clip_chain::{Geometry, Scrolls, Spot, Through, reaches, root_rect, visible_rect};
-use element_tree::{DocumentId, NodeId};
+use clip_chain::{Geometry, Scrolls, Through, reaches, root_rect, visible_rect};
+use element_tree::{Container, DocumentId, NodeId};
 use px_units::Rect;
 use thresholds::{Margins, ThresholdFault};
 
 // The viewport of the page, and that of the document in the frame.
-const TOP: Spot = Spot::View(DocumentId(0));
+const TOP: Container = Container::Document(DocumentId(0));
 
-const FRAMED: Spot = Spot::View(DocumentId(1));
+const FRAMED: Container = Container::Document(DocumentId(1));
 
 // A page whose root element, 0, holds a scroller, 1. In it stand a frame, 2, and two boxes at its right edge: 7, which touches
 // it, and 8, which lies one unit beyond. The root element of the frame's document, 3, holds a scroller, 4, and in it an open
@@ -25,11 +25,11 @@ impl Geometry for Sample {
 
     ghost rank = { λ it. sample_rank };
 
-    fn container(&self, of: Spot) -> Option<Spot> {
+    fn container(&self, of: Container) -> Option<Container> {
         match of {
-            Spot::View(DocumentId(1)) => Some(node(2)),
-            Spot::View(_) => None,
-            Spot::Node(NodeId(number)) => match number {
+            Container::Document(DocumentId(1)) => Some(node(2)),
+            Container::Document(_) => None,
+            Container::Element(NodeId(number)) => match number {
                 0 => Some(TOP),
                 1 => Some(node(0)),
                 2 => Some(node(1)),
@@ -43,12 +43,12 @@ impl Geometry for Sample {
         }
     }
 
-    fn clip(&self, of: Spot) -> Option<Rect> {
+    fn clip(&self, of: Container) -> Option<Rect> {
         match of {
-            Spot::View(DocumentId(0)) => Some(rect(0, 0, 800, 600)),
-            Spot::View(DocumentId(1)) => Some(rect(100, 200, 400, 500)),
-            Spot::View(_) => None,
-            Spot::Node(NodeId(number)) => match number {
+            Container::Document(DocumentId(0)) => Some(rect(0, 0, 800, 600)),
+            Container::Document(DocumentId(1)) => Some(rect(100, 200, 400, 500)),
+            Container::Document(_) => None,
+            Container::Element(NodeId(number)) => match number {
                 1 => Some(rect(10, 20, 410, 320)),
                 4 => Some(rect(120, 160, 380, 460)),
                 6 => Some(rect(131, 181, 140, 190)),
@@ -57,12 +57,12 @@ impl Geometry for Sample {
         }
     }
 
-    fn bounds(&self, of: Spot) -> Rect {
+    fn bounds(&self, of: Container) -> Rect {
         match of {
-            Spot::View(DocumentId(0)) => rect(0, 0, 800, 600),
-            Spot::View(DocumentId(1)) => rect(100, 200, 400, 500),
-            Spot::View(_) => rect(0, 0, 0, 0),
-            Spot::Node(NodeId(number)) => match number {
+            Container::Document(DocumentId(0)) => rect(0, 0, 800, 600),
+            Container::Document(DocumentId(1)) => rect(100, 200, 400, 500),
+            Container::Document(_) => rect(0, 0, 0, 0),
+            Container::Element(NodeId(number)) => match number {
                 0 => rect(0, 0, 800, 2000),
                 1 => rect(5, 15, 415, 325),
                 2 => rect(100, 200, 400, 500),
@@ -79,10 +79,10 @@ impl Geometry for Sample {
 }
 
 impl Scrolls for Sample {
-    fn scrolls(&self, of: Spot) -> bool {
+    fn scrolls(&self, of: Container) -> bool {
         match of {
-            Spot::View(_) => false,
-            Spot::Node(NodeId(number)) => match number {
+            Container::Document(_) => false,
+            Container::Element(NodeId(number)) => match number {
                 1 | 4 | 6 => true,
                 _ => false,
             },
@@ -101,14 +101,14 @@ fn rect(left: u32, top: u32, right: u32, bottom: u32) -> Rect
     }
 }
 
-fn node(number: u32) -> Spot
+fn node(number: u32) -> Container
     ensures { result ≡ element number }
 {
-    Spot::Node(NodeId(number))
+    Container::Element(NodeId(number))
 }
 
 // None where the root isn't above the target.
-fn seen(target: Spot, root: Spot, limits: Rect) -> Option<Option<Rect>> {
+fn seen(target: Container, root: Container, limits: Rect) -> Option<Option<Rect>> {
     if reaches(&Sample, target, root) {
         Some(visible_rect(&Sample, target, root, limits))
     } else {
@@ -117,7 +117,12 @@ fn seen(target: Spot, root: Spot, limits: Rect) -> Option<Option<Rect>> {
 }
 
 // The same as an observer with scroll margins sees it.
-fn seen_through(target: Spot, root: Spot, margins: Margins, limits: Rect) -> Option<Option<Rect>> {
+fn seen_through(
+    target: Container,
+    root: Container,
+    margins: Margins,
+    limits: Rect,
+) -> Option<Option<Rect>> {
     let view = Through {
         geometry: &Sample,
         root,

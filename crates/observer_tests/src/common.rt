@@ -2,15 +2,14 @@
 
 ghost use Rattle.std.specs.Prelude.{◌≡◌, IfOk};
 ghost use Rattle.clip_chain.specs.Ranges.{IsClip, IsBounds};
-ghost use Rattle.clip_chain.specs.Worlds.{element_spot};
-ghost use Rattle.clip_chain.specs.Worlds.{view_spot};
+ghost use Rattle.clip_chain.specs.Worlds.{element_spot, view_spot};
 ghost use Rattle.clip_chain.specs.Scenes.{Scene as SceneOf};
 ghost use Rattle.kept_clips.specs.Scenes.{DiffersOnlyAt};
 ghost use Rattle.observer_tests.specs.Sample.{rect_of, sample, sample_standing, AreExact};
 
 use candidate_index::{Scene, Standing};
-use clip_chain::{Geometry, Spot};
-use element_tree::{DocumentId, NodeId};
+use clip_chain::Geometry;
+use element_tree::{Container, DocumentId, NodeId};
 use intersection_observer::Root;
 use kept_clips::Clips;
 use px_units::Rect;
@@ -40,30 +39,30 @@ impl Geometry for Page {
 
     ghost rank = { λ it. sample_rank };
 
-    fn container(&self, of: Spot) -> Option<Spot> {
+    fn container(&self, of: Container) -> Option<Container> {
         match of {
-            Spot::View(_) => None,
-            Spot::Node(NodeId(0)) => Some(Spot::View(DocumentId(0))),
-            Spot::Node(NodeId(number)) => Some(node(number / 2)),
+            Container::Document(_) => None,
+            Container::Element(NodeId(0)) => Some(Container::Document(DocumentId(0))),
+            Container::Element(NodeId(number)) => Some(node(number / 2)),
         }
     }
 
-    fn clip(&self, of: Spot) -> Option<Rect> {
+    fn clip(&self, of: Container) -> Option<Rect> {
         self.asked.set(self.asked.get().saturating_add(1));
         match of {
-            Spot::View(DocumentId(0)) => Some(rect(self.view)),
-            Spot::View(_) => None,
-            Spot::Node(NodeId(number)) => match self.clips.get(number as usize) {
+            Container::Document(DocumentId(0)) => Some(rect(self.view)),
+            Container::Document(_) => None,
+            Container::Element(NodeId(number)) => match self.clips.get(number as usize) {
                 Some(Some(sides)) => Some(rect(*sides)),
                 _ => None,
             },
         }
     }
 
-    fn bounds(&self, of: Spot) -> Rect {
+    fn bounds(&self, of: Container) -> Rect {
         match of {
-            Spot::View(_) => rect(self.view),
-            Spot::Node(NodeId(number)) => match self.boxes.get(number as usize) {
+            Container::Document(_) => rect(self.view),
+            Container::Element(NodeId(number)) => match self.boxes.get(number as usize) {
                 Some(sides) => rect(*sides),
                 None => rect((0, 0, 0, 0)),
             },
@@ -155,13 +154,13 @@ pub(crate) fn rect(sides: Sides) -> Rect
     }
 }
 
-pub(crate) fn node(number: u32) -> Spot
+pub(crate) fn node(number: u32) -> Container
     ensures { result ≡ element_spot number }
 {
-    Spot::Node(NodeId(number))
+    Container::Element(NodeId(number))
 }
 
-fn touch(rt: &impl Abort, clips: &mut Clips, of: Spot)
+fn touch(rt: &impl Abort, clips: &mut Clips, of: Container)
     ensures { (before after : SceneOf) → AreExact before clips.old → DiffersOnlyAt of before after → AreExact after clips.new }
 {
     assert!(rt; clips.is_added(of));
@@ -180,7 +179,7 @@ pub(crate) fn change_clip(
     ensures { AreExact (sample page.new.clips page.new.boxes page.new.view) clips.new }
 {
     page.put_clip(number, sides);
-    touch(rt, clips, Spot::Node(NodeId(number)));
+    touch(rt, clips, Container::Element(NodeId(number)));
 }
 
 /// Another viewport, which is touched.
@@ -189,7 +188,7 @@ pub(crate) fn change_view(rt: &impl Abort, page: &mut Page, clips: &mut Clips, s
     ensures { AreExact (sample page.new.clips page.new.boxes page.new.view) clips.new }
 {
     page.put_view(sides);
-    touch(rt, clips, Spot::View(DocumentId(0)));
+    touch(rt, clips, Container::Document(DocumentId(0)));
 }
 
 fn make_three(observers: &mut Observers) -> Result<(), ObserveFault>

@@ -5,8 +5,8 @@ ghost use Rattle.clip_chain.specs.Scenes.{Scene as SceneOf};
 ghost use Rattle.observer_tests.specs.Sample.{sample, AreExact};
 
 use crate::common::{Page, Sides, change_clip, node, rect};
-use clip_chain::{Spot, reaches};
-use element_tree::{DocumentId, NodeId};
+use clip_chain::reaches;
+use element_tree::{Container, DocumentId, NodeId};
 use kept_clips::{Clip, Clips};
 use std::marker::Brand;
 use std::process::Abort;
@@ -29,11 +29,11 @@ enum Step {
     Ask(u64, Want, u32),
 }
 
-const PAIRS: [(u64, Spot, Spot); 4] = [
-    (1, Spot::View(DocumentId(0)), Spot::Node(NodeId(7))),
-    (2, Spot::View(DocumentId(0)), Spot::Node(NodeId(4))),
-    (3, Spot::Node(NodeId(1)), Spot::Node(NodeId(6))),
-    (4, Spot::Node(NodeId(0)), Spot::Node(NodeId(1))),
+const PAIRS: [(u64, Container, Container); 4] = [
+    (1, Container::Document(DocumentId(0)), Container::Element(NodeId(7))),
+    (2, Container::Document(DocumentId(0)), Container::Element(NodeId(4))),
+    (3, Container::Element(NodeId(1)), Container::Element(NodeId(6))),
+    (4, Container::Element(NodeId(0)), Container::Element(NodeId(1))),
 ];
 
 const STEPS: [Step; 28] = [
@@ -145,17 +145,17 @@ fn clips_are_computed_again_where_their_chains_are_touched(rt: HostRuntime) -> R
 }
 
 fn see_adding(rt: &impl Abort, clips: &mut Clips) -> Result<(), Fail> {
-    assert!(rt; !clips.is_added(Spot::View(DocumentId(0))));
-    clips.add(Spot::View(DocumentId(1)))?;
-    assert!(rt; clips.is_added(Spot::View(DocumentId(0))));
+    assert!(rt; !clips.is_added(Container::Document(DocumentId(0))));
+    clips.add(Container::Document(DocumentId(1)))?;
+    assert!(rt; clips.is_added(Container::Document(DocumentId(0))));
     assert!(rt; !clips.is_added(node(1)));
-    clips.touch(Spot::View(DocumentId(0)));
+    clips.touch(Container::Document(DocumentId(0)));
     Ok(())
 }
 
 fn see_holding(rt: &impl Abort, clips: &mut Clips) -> Result<(), Fail> {
     assert_eq!(rt; clips.pair(3), None);
-    clips.hold(3, Spot::View(DocumentId(0)), node(1))?;
+    clips.hold(3, Container::Document(DocumentId(0)), node(1))?;
     assert!(rt; clips.pair(3).is_some());
     clips.release(3);
     assert_eq!(rt; clips.pair(3), None);

@@ -1,14 +1,14 @@
 //! The examples of the crates' README files, each the body of a function here, as `tools/check-documents` sees.
 
 use crate::common::{Page, node, rect};
-use clip_chain::{Spot, reaches, root_rect, visible_rect};
+use clip_chain::{reaches, root_rect, visible_rect};
 use depth_gather::{Sizes, end_delivery, gather, next_delivery};
-use element_tree::{DocumentId, NodeId};
+use element_tree::{Container, DocumentId, NodeId};
 use event_tables::{HandlerId, Timers};
 use intersection_observer::{Finding, Root, Settled, Watchers};
 use px_units::{BoxKind, Point, Rect, Size};
 use resize_observer::Observers;
-use scrolling::{Outcome, ScrollTarget, Scrolls};
+use scrolling::{Outcome, Scrolls};
 use std::test::Fail;
 use text_io::Name;
 use thresholds::{Margins, Ratio, Thresholds};
@@ -94,7 +94,7 @@ fn a_finding_that_is_news_is_queued(rt: HostRuntime) -> Result<(), Fail> {
 #[test]
 fn a_target_is_seen_in_the_viewport(rt: HostRuntime) -> Result<(), Fail> {
     let page = Page::new(); // elements with their boxes, a `Geometry`
-    let (target, root) = (node(6), Spot::View(DocumentId(0))); // the implicit root
+    let (target, root) = (node(6), Container::Document(DocumentId(0))); // the implicit root
     assert!(rt; reaches(&page, target, root));
     let limits = Margins::parse(b"1px")?.dilate(root_rect(&page, root));
     let seen = visible_rect(&page, target, root, limits); // None where nothing is seen
@@ -106,7 +106,7 @@ fn a_target_is_seen_in_the_viewport(rt: HostRuntime) -> Result<(), Fail> {
 fn a_viewport_is_scrolled(rt: HostRuntime) -> Result<(), Fail> {
     let mut scrolls = Scrolls::new(rt.alloc());
     let top = DocumentId(0);
-    let view = ScrollTarget::Document(top);
+    let view = Container::Document(top);
     let range = Size {
         width: 0,
         height: 6400,

@@ -2,19 +2,19 @@
 
 ghost use Rattle.scrolling.specs.Ranges.{IsRange};
 
-use element_tree::{DocumentId, NodeId};
+use element_tree::{Container, DocumentId, NodeId};
 use px_units::{Point, Size};
-use scrolling::{Outcome, ScrollTarget, Scrolls};
+use scrolling::{Outcome, Scrolls};
 use std::process::Abort;
 use std::test::Fail;
 
-const BOX: ScrollTarget = ScrollTarget::Node(NodeId(3));
+const BOX: Container = Container::Element(NodeId(3));
 
-const OTHER: ScrollTarget = ScrollTarget::Node(NodeId(1));
+const OTHER: Container = Container::Element(NodeId(1));
 
-const VIEW: ScrollTarget = ScrollTarget::Document(DocumentId(1));
+const VIEW: Container = Container::Document(DocumentId(1));
 
-const TOP: ScrollTarget = ScrollTarget::Document(DocumentId(0));
+const TOP: Container = Container::Document(DocumentId(0));
 
 // A range in whole pixels.
 fn range(width: u16, height: u16) -> Size
@@ -64,7 +64,7 @@ fn scrolls_keep_to_their_ranges(rt: HostRuntime) -> Result<(), Fail> {
     Ok(())
 }
 
-fn take(rt: &impl Abort, scrolls: &mut Scrolls, document: DocumentId, want: &[ScrollTarget]) {
+fn take(rt: &impl Abort, scrolls: &mut Scrolls, document: DocumentId, want: &[Container]) {
     let taken = scrolls.take_pending(document);
     assert_eq!(rt; taken.as_slice(), want);
 }
@@ -79,7 +79,7 @@ fn pending_lists_have_an_order_and_no_doubles(rt: HostRuntime) -> Result<(), Fai
         (0, BOX, 3),
         (0, OTHER, 1),
         (0, OTHER, 1),
-        (0, ScrollTarget::Node(NodeId(0)), 0),
+        (0, Container::Element(NodeId(0)), 0),
         (2, TOP, 9),
     ];
     for (document, target, top) in steps {

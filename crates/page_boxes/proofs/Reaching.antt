@@ -10,7 +10,7 @@ use Rattle.layout_model.specs.Points.{minus, capped, IsWithin}
 use Rattle.layout_model.specs.Views.{View, view_size, inputs_in_view}
 use Rattle.layout_model.specs.Reach.{reach_at, reach_of, reach_of_view, range_at, range_of, range_of_view}
 use Rattle.layout_model.proofs.Attained.{view_alone}
-use Rattle.page_model.specs.World.{Screen, ScrolledElement, ScrolledDocument, Tree}
+use Rattle.page_model.specs.World.{Screen, InElement, InDocument, Tree}
 use Rattle.page_model.specs.Documents.{nodes_of}
 use Rattle.page_model.specs.PageBoxes.{pair_of, view_of, view_at, has_box, is_scroller, range_if, scroll_range}
 use Rattle.block_layout.specs.Seen.{as_size}
@@ -119,18 +119,18 @@ module _ (tree : Tree) (screen : Screen) where
   range_by_test n false = refl
 
   pub element_range : (n : ℕ) → has_box tree screen n ≡ true
-      → cond (is_scroll_container (nodes_of tree n)) (range_of (nodes_of tree) (view_at tree screen n) n) (0, 0) ≡ pair_of (scroll_range tree screen (ScrolledElement n))
+      → cond (is_scroll_container (nodes_of tree n)) (range_of (nodes_of tree) (view_at tree screen n) n) (0, 0) ≡ pair_of (scroll_range tree screen (InElement n))
   unfolding scroll_range
   element_range n boxed = range_by_test n (is_scroll_container (nodes_of tree n)) ∙ ap (range_if tree screen n) (sym (scroller_is n boxed))
 
-  pub element_rangeless : (n : ℕ) → has_box tree screen n ≡ false → (0, 0) ≡ pair_of (scroll_range tree screen (ScrolledElement n))
+  pub element_rangeless : (n : ℕ) → has_box tree screen n ≡ false → (0, 0) ≡ pair_of (scroll_range tree screen (InElement n))
   unfolding scroll_range
   element_rangeless n none = ap (range_if tree screen n) (sym (no_scroller n none))
 
   -- ranges of documents' viewports
-  pub view_range : (document : ℕ) → range_of_view (nodes_of tree) (view_of tree screen document) ≡ pair_of (scroll_range tree screen (ScrolledDocument document))
+  pub view_range : (document : ℕ) → range_of_view (nodes_of tree) (view_of tree screen document) ≡ pair_of (scroll_range tree screen (InDocument document))
   unfolding scroll_range
   view_range document = refl
 
-  pub view_rangeless : (document : ℕ) → (view_of tree screen document).root ≡ None → as_size (0, 0) ≡ as_size (pair_of (scroll_range tree screen (ScrolledDocument document)))
+  pub view_rangeless : (document : ℕ) → (view_of tree screen document).root ≡ None → as_size (0, 0) ≡ as_size (pair_of (scroll_range tree screen (InDocument document)))
   view_rangeless document none = ap as_size (rootless_range (nodes_of tree) (view_of tree screen document) none ∙ view_range document)

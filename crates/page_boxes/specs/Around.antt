@@ -1,8 +1,8 @@
 -- A document and the documents around it: what a reading rests on, and what it leaves as it is.
 use Rattle.std.specs.Prelude.{◌≡◌, ℕ, Bool, false, List, Option, Some, None, option_map}
-use Rattle.page_model.specs.World.{Tree}
+use Rattle.page_model.specs.World.{Tree, Container, InElement, InDocument}
 use Rattle.page_model.specs.Lookups.{element_at, document_at, is_listed}
-use Rattle.page_model.specs.Documents.{Container, InElement, InDocument, frame_levels}
+use Rattle.page_model.specs.Documents.{frame_levels}
 use Rattle.page_documents.specs.Paths.{way_down}
 use Rattle.kept_layout.specs.declared.slots.Slot.{Slot}
 use Rattle.kept_layout.specs.Slots.{slot_in}

@@ -6,9 +6,9 @@ use Rattle.layout_model.specs.Views.{View, inputs_in_view}
 use Rattle.kept_layout.specs.declared.slots.Slot.{Slot}
 use Rattle.kept_layout.specs.Fresh.{IsFresh as IsFreshAt}
 use Rattle.kept_layout.specs.Slots.{slot_in}
-use Rattle.page_model.specs.World.{Screen, Tree}
+use Rattle.page_model.specs.World.{Screen, Tree, Container, InElement, InDocument}
 use Rattle.page_model.specs.Lookups.{element_at, document_at}
-use Rattle.page_model.specs.Documents.{Container, InElement, InDocument, nodes_of}
+use Rattle.page_model.specs.Documents.{nodes_of}
 use Rattle.page_model.specs.PageBoxes.{view_of}
 
 -- each box in a view

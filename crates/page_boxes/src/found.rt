@@ -13,11 +13,11 @@ ghost use Rattle.page_boxes.specs.Ranges.{IsOffset};
 
 use crate::in_force::{boxed_offset, is_at_start};
 use block_layout::Styled;
-use element_tree::{NodeId, Tree};
+use element_tree::{Container, NodeId, Tree};
 use kept_layout::Kept;
 use number_map::NumberMap;
 use px_units::Point;
-use scrolling::{ScrollTarget, Scrolls};
+use scrolling::Scrolls;
 use std::alloc::{AllocError, Global};
 
 /// The scroll offset in force of each node whose stored position isn't the start, by its number. Exact as long as the boxes in its view are
@@ -42,7 +42,7 @@ pub fn boxed_offsets<P: Styled>(
         if !tree.holds(node) {
             break;
         }
-        if !is_at_start(scrolls, ScrollTarget::Node(node)) {
+        if !is_at_start(scrolls, Container::Element(node)) {
             found.insert(u64::from(number), boxed_offset(tree, boxes, scrolls, node))?;
         }
     }

@@ -8,7 +8,8 @@ ghost use Rattle.layout_model.specs.Reach.{offset_in_force, range_of_view};
 ghost use Rattle.page_model.specs.Lookups.{no_extent};
 ghost use Rattle.page_model.specs.Scrolls.{position_of, lesser_extent};
 ghost use Rattle.page_model.specs.PageBoxes.{extent_of, view_with, stored_in};
-ghost use Rattle.scrolling.specs.Seen.{seen_target, point_of};
+ghost use Rattle.container_model.specs.Seen.{seen_container};
+ghost use Rattle.scrolling.specs.Seen.{point_of};
 ghost use Rattle.block_layout.specs.Seen.{as_point};
 ghost use Rattle.block_layout.specs.Trees.{layout_tree};
 ghost use Rattle.kept_layout.specs.Measures.{IsSized};
@@ -21,10 +22,10 @@ use crate::documents::ShownRoot;
 use crate::least::{last_range, root_range};
 use crate::ranges::{boxed_range, shown_range};
 use block_layout::Styled;
-use element_tree::{NodeId, Tree};
+use element_tree::{Container, NodeId, Tree};
 use kept_layout::Kept;
 use px_units::{Point, Size};
-use scrolling::{ScrollTarget, Scrolls};
+use scrolling::Scrolls;
 
 const ORIGIN: Point = Point { left: 0, top: 0 };
 
@@ -35,18 +36,18 @@ const FARTHEST: Size = Size {
 };
 
 /// Whether the stored position of a target is the start, where nothing is scrolled whatever its range. No memory.
-pub fn is_at_start(scrolls: &Scrolls, target: ScrollTarget) -> bool
-    ensures start { result ≡ true → position_of (seen_target target) scrolls.now ≡ no_extent }
-    ensures moved { position_of (seen_target target) scrolls.now ≡ no_extent → result ≡ true }
+pub fn is_at_start(scrolls: &Scrolls, target: Container) -> bool
+    ensures start { result ≡ true → position_of (seen_container target) scrolls.now ≡ no_extent }
+    ensures moved { position_of (seen_container target) scrolls.now ≡ no_extent → result ≡ true }
 {
     let stored = scrolls.offset_in_force(target, FARTHEST);
     stored.left == 0 && stored.top == 0
 }
 
 // The stored position of a target, where it lies within a lower bound of the target's range.
-fn stored_within(scrolls: &Scrolls, target: ScrollTarget, least: Size) -> Option<Point>
+fn stored_within(scrolls: &Scrolls, target: Container, least: Size) -> Option<Point>
     ensures value { IfSome result (λ offset. (range : ℕ × ℕ) → IsWithin (seen_pair least) range → IsWithin range (2147483647, 2147483647) →
-        offset ≡ point_of (lesser_extent (position_of (seen_target target) scrolls.now) (extent_of range))) }
+        offset ≡ point_of (lesser_extent (position_of (seen_container target) scrolls.now) (extent_of range))) }
     ensures range { IfSome result IsOffset }
 {
     let stored = scrolls.offset_in_force(target, FARTHEST);
@@ -72,7 +73,7 @@ pub fn boxed_offset<P: Styled>(
         result ≡ as_point (offset_in_force at (stored_in scrolls.now) view node.0) }
     ensures range { IsOffset result }
 {
-    let target = ScrollTarget::Node(node);
+    let target = Container::Element(node);
     if is_at_start(scrolls, target) {
         return ORIGIN;
     }
@@ -91,14 +92,14 @@ pub fn shown_offset<P: Styled>(
     tree: &Tree<P>,
     boxes: &Kept,
     scrolls: &Scrolls,
-    target: ScrollTarget,
+    target: Container,
     shown: ShownRoot,
 ) -> Point
     requires root { shown.root.0 < length tree.now.nodes }
     requires size { IsNatural shown.size }
     ensures value { let at = layout_tree P.style P.kind tree.now.nodes in (at shown.root.0).parent ≡ None → (view : View) →
         view ≡ view_with (Some shown.root.0) (Some (seen_pair shown.size)) → HoldsAll at view boxes.now →
-        result ≡ point_of (lesser_extent (position_of (seen_target target) scrolls.now) (extent_of (range_of_view at view))) }
+        result ≡ point_of (lesser_extent (position_of (seen_container target) scrolls.now) (extent_of (range_of_view at view))) }
     ensures range { IsOffset result }
 {
     match stored_within(scrolls, target, root_range(tree, boxes, shown)) {

@@ -3,9 +3,9 @@ use Rattle.std.proofs.Common.{◌≡◌, ◌<◌, ℕ, Bool, true, false, cond, 
 use Rattle.std.specs.Prelude.{◌==◌, ◌||◌, is_some}
 use Rattle.std.specs.Cmp.{nat_eq_equiv}
 use Rattle.std.proofs.lemmas.Bool.{false≢true, true≢false}
-use Rattle.page_model.specs.World.{Element, Dead, Document, Tree}
+use Rattle.page_model.specs.World.{Element, Dead, Document, Tree, Container, InElement, InDocument}
 use Rattle.page_model.specs.Lookups.{element_at, document_at, no_element, is_listed, change_at}
-use Rattle.page_model.specs.Documents.{Container, InElement, InDocument, is_number, is_root_element, is_active, is_active_state, inclusive_descendants, documents_inside, container_by, container_of, document_of_container, with_state, placed_before, linked, adopted, shown}
+use Rattle.page_model.specs.Documents.{is_number, is_root_element, is_active, is_active_state, inclusive_descendants, documents_inside, container_by, container_of, document_of_container, with_state, placed_before, linked, adopted, shown}
 use Rattle.page_model.specs.Commands.{is_full}
 use Rattle.element_tree.specs.Forest.{Forest, IsForest, has, names, children_of, parent_of}
 use Rattle.page_documents.specs.Seen.{Carried, seen_tree}

@@ -1,9 +1,9 @@
 -- What becomes of a tree as an element that stands nowhere is put somewhere, before it is adopted.
 use Rattle.std.proofs.Common.{◌≡◌, ◌≢◌, ◌<◌, ℕ, List, length, Option, Some, None, ◌⊎◌, inl, inr, refl, ap, sym, ◌∙◌}
 use Rattle.std.proofs.lemmas.Bool.{cases_eq}
-use Rattle.page_model.specs.World.{Element, Document, Tree}
+use Rattle.page_model.specs.World.{Element, Document, Tree, InElement, InDocument}
 use Rattle.page_model.specs.Lookups.{element_at, document_at, no_element, no_document, is_listed, change_at}
-use Rattle.page_model.specs.Documents.{InElement, InDocument, is_number, placed_before, linked}
+use Rattle.page_model.specs.Documents.{is_number, placed_before, linked}
 use Rattle.page_documents.specs.Frames.{MakeTrees}
 use Rattle.page_documents.proofs.Lists.{itself_placed, listed_placed, its_number, no_number, not_some}
 use Rattle.page_documents.proofs.Adopting.{change_length}

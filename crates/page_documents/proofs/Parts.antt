@@ -1,8 +1,8 @@
 -- The definition of removal by parts: what it makes of elements, and what of documents, in whichever order.
 use Rattle.std.proofs.Common.{◌≡◌, ℕ, zero, suc, cond, List, [], ◌∷◌, Option, Some, None, refl, ap, ◌∙◌}
-use Rattle.page_model.specs.World.{Dead, Document, Tree}
+use Rattle.page_model.specs.World.{Dead, Document, Tree, Container, InElement, InDocument}
 use Rattle.page_model.specs.Lookups.{change_at, change_each}
-use Rattle.page_model.specs.Documents.{Container, InElement, InDocument, container_of, unlinked, removed, with_state, stands_in_active, documents_inside, is_active_state}
+use Rattle.page_model.specs.Documents.{container_of, unlinked, removed, with_state, stands_in_active, documents_inside, is_active_state}
 
 crossed_at : {A : Type 0} (f g : A → A) → ((x : A) → f (g x) ≡ g (f x)) → (i j : ℕ) (xs : List A) → change_at f i (change_at g j xs)
     ≡ change_at g j (change_at f i xs)

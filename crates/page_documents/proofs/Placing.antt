@@ -7,9 +7,9 @@ use Rattle.text_io.specs.declared.kinds.ThrowKind.{ThrowKind}
 use Rattle.text_io.specs.declared.kinds.ThrowKind.TheVariants.{HierarchyRequestError, NotFoundError}
 use Rattle.text_io.specs.declared.kinds.LimitKind.{LimitKind}
 use Rattle.text_io.specs.declared.kinds.LimitKind.TheVariants as limits
-use Rattle.page_model.specs.World.{Tree}
+use Rattle.page_model.specs.World.{Tree, Container, InElement, InDocument}
 use Rattle.page_model.specs.Lookups.{element_at, document_at}
-use Rattle.page_model.specs.Documents.{Container, InElement, InDocument, nodes_of, inclusive_descendants, is_inclusive_ancestor, element_depth, levels_of, removed, linked, sibling_meant, adopted, shown, inserted}
+use Rattle.page_model.specs.Documents.{nodes_of, inclusive_descendants, is_inclusive_ancestor, element_depth, levels_of, removed, linked, sibling_meant, adopted, shown, inserted}
 use Rattle.page_model.specs.Steps.{Step, Did, ◌>>◌, throw_if, met_unless}
 use Rattle.page_model.specs.Commands.{placing, would_hold_itself, is_no_child, is_full, container_depth}
 use Rattle.page_documents.specs.Frames.{MakeTrees, AreFramed}

@@ -1,9 +1,9 @@
 -- Taking an element out of where it stands keeps documents and frames together.
 use Rattle.std.proofs.Common.{◌≡◌, ◌≢◌, ◌<◌, ℕ, Bool, true, false, cond, List, [], length, Option, Some, None, ◌⊎◌, inl, inr, refl, ap, sym, subst, ◌∙◌, arith}
 use Rattle.std.proofs.lemmas.Bool.{cases_eq, cases_Bool, false≢true, true≢false}
-use Rattle.page_model.specs.World.{DocumentState, Dead, Document, Tree}
+use Rattle.page_model.specs.World.{DocumentState, Dead, Document, Tree, Container, InElement, InDocument}
 use Rattle.page_model.specs.Lookups.{element_at, document_at, no_document}
-use Rattle.page_model.specs.Documents.{Container, InElement, InDocument, nodes_of, inclusive_descendants, first_of_list, is_number, is_active, is_active_state, tree_document, stands_in_active, frames_in, documents_inside, container_of, unlinked, with_state, removed}
+use Rattle.page_model.specs.Documents.{nodes_of, inclusive_descendants, first_of_list, is_number, is_active, is_active_state, tree_document, stands_in_active, frames_in, documents_inside, container_of, unlinked, with_state, removed}
 use Rattle.page_documents.specs.Paths.{owner_of, holder_of, way_down}
 use Rattle.page_documents.specs.Frames.{MakeTrees, HaveOwners, AreFramed}
 use Rattle.page_documents.proofs.Parts.{ends}

@@ -1,8 +1,8 @@
 -- Where an element is put, and what a tree is between the two halves of a removal or an insertion: elements are linked anew, and
 -- documents don't know of it yet.
 use Rattle.std.specs.Prelude.{◌≡◌, ℕ, ◌<◌, false, length, Option, Some, None}
-use Rattle.page_model.specs.World.{Tree}
-use Rattle.page_model.specs.Documents.{Container, InElement, InDocument, container_of, tree_document, unlinked, linked}
+use Rattle.page_model.specs.World.{Tree, Container, InElement, InDocument}
+use Rattle.page_model.specs.Documents.{container_of, tree_document, unlinked, linked}
 use Rattle.page_model.specs.Commands.{is_full}
 
 -- there is such an element or document

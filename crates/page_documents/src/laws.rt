@@ -4,8 +4,8 @@ ghost use Rattle.std.specs.Prelude.{◌≡◌, ℕ, ◌<◌, Option, None, lengt
 ghost use Rattle.layout_model.specs.Styles.{Declaration};
 ghost use Rattle.text_io.specs.declared.kinds.Version.{Version};
 ghost use Rattle.layout_model.specs.Items.{Kind};
-ghost use Rattle.page_model.specs.World.{Tree};
-ghost use Rattle.page_model.specs.Documents.{Container, frame_levels, removed};
+ghost use Rattle.page_model.specs.World.{Tree, Container};
+ghost use Rattle.page_model.specs.Documents.{frame_levels, removed};
 ghost use Rattle.page_model.specs.Edits.{with_element, with_frame, with_declaration, with_natural_size};
 ghost use Rattle.page_model.specs.Steps.{Did};
 ghost use Rattle.page_model.specs.Commands.{placing};

@@ -9,9 +9,8 @@ use Rattle.px_units.specs.declared.Rect.{Rect}
 use Rattle.px_units.specs.Rects.{InReach, RectInReach}
 use Rattle.layout_model.specs.Boxes.{Box, padding_size, padding_corner, inner_corner}
 use Rattle.script_model.specs.TraceLines.{ReadLine}
-use Rattle.page_model.specs.World.{Extent, Screen, ScrolledElement, ScrolledDocument, Scrolls, Name, Tree}
+use Rattle.page_model.specs.World.{Extent, Screen, InElement, InDocument, Scrolls, Name, Tree}
 use Rattle.page_model.specs.Lookups.{no_extent, element_at}
-use Rattle.page_model.specs.Documents.{InElement, InDocument}
 use Rattle.page_model.specs.Names.{element_text, document_text}
 use Rattle.page_model.specs.Chains.{beside, padding_box_at, content_corner_at}
 use Rattle.page_model.specs.Readings.{rect_of, point_at, reading_of}
@@ -99,7 +98,7 @@ span_reach units span = record { low = omega (arith, ints, span.0); high = omega
 
 -- what the command `read` shows
 pub element_reading : (names : List Name) (tree : Tree) (screen : Screen) (scrolls : Scrolls) (n : ℕ) (rect : Rect) (scroll : Point)
-    → rect ≡ rect_of (place_of tree screen scrolls n) (size_of tree screen n Border) → scroll ≡ point_at (scroll_offset tree screen scrolls (ScrolledElement n))
+    → rect ≡ rect_of (place_of tree screen scrolls n) (size_of tree screen n Border) → scroll ≡ point_at (scroll_offset tree screen scrolls (InElement n))
     → reading_of names tree screen scrolls (InElement n) ≡ ReadLine (element_text names n) rect scroll
 element_reading names tree screen scrolls n rect scroll is shown =
     ap (λ s. ReadLine (element_text names n) (rect_of (place_of tree screen scrolls n) (size_of tree screen n Border)) s)
@@ -107,7 +106,7 @@ element_reading names tree screen scrolls n rect scroll is shown =
     ∙ ap (λ r. ReadLine (element_text names n) r scroll) (sym is)
 
 pub document_reading : (names : List Name) (tree : Tree) (screen : Screen) (scrolls : Scrolls) (document : ℕ) (rect : Rect) (scroll : Point) → rect ≡ rect_of (point_at no_extent) (viewport_of tree screen document)
-    → scroll ≡ point_at (scroll_offset tree screen scrolls (ScrolledDocument document)) → reading_of names tree screen scrolls (InDocument document) ≡ ReadLine (document_text names document) rect scroll
+    → scroll ≡ point_at (scroll_offset tree screen scrolls (InDocument document)) → reading_of names tree screen scrolls (InDocument document) ≡ ReadLine (document_text names document) rect scroll
 document_reading names tree screen scrolls document rect scroll is shown =
     ap (λ s. ReadLine (document_text names document) (rect_of (point_at no_extent) (viewport_of tree screen document)) s) (sym shown)
     ∙ ap (λ r. ReadLine (document_text names document) r scroll) (sym is)

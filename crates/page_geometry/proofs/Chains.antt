@@ -6,17 +6,17 @@ use Rattle.layout_model.specs.Nodes.{Holder, HeldByElement, HeldByPage, HeldBySc
 use Rattle.layout_model.proofs.Ancestors.{in_child, in_top}
 use Rattle.layout_model.proofs.Holders.{holder_less, holder_cases, held_shallow}
 use Rattle.layout_model.proofs.Paths.{depth_least}
-use Rattle.page_model.specs.World.{Screen, Tree, Scrolls, Root, ImplicitRoot, DocumentRoot, ElementRoot}
+use Rattle.page_model.specs.World.{Screen, Tree, Scrolls, Root, ImplicitRoot, DocumentRoot, ElementRoot, InElement}
 use Rattle.page_model.specs.Lookups.{element_at, document_at}
-use Rattle.page_model.specs.Documents.{InElement, first_of_list, nodes_of, tree_document, element_depth}
+use Rattle.page_model.specs.Documents.{first_of_list, nodes_of, tree_document, element_depth}
 use Rattle.page_model.specs.PageBoxes.{has_box}
 use Rattle.page_model.specs.Shown.{shown_with}
 use Rattle.page_model.specs.Chains.{container_held, holding}
 use Rattle.page_model.specs.Findings.{is_on_chain, is_apart}
 use Rattle.page_documents.specs.Paths.{owner_of, way_above, way_down}
 use Rattle.page_documents.specs.Frames.{AreFramed}
-use Rattle.clip_chain.specs.declared.spot.Spot.{Spot}
-use Rattle.clip_chain.specs.declared.spot.Spot.TheVariants.{Node, View}
+use Rattle.element_tree.specs.declared.container.Container.{Container}
+use Rattle.element_tree.specs.declared.container.Container.TheVariants.{Element, Document}
 use Rattle.clip_chain.specs.Scenes.{Scene}
 use Rattle.clip_chain.specs.Chains.{Leads, IsAbove}
 use Rattle.clip_chain.specs.Worlds.{element_spot, spot_of, spot_of_root, scene_of, view_spot}
@@ -25,33 +25,33 @@ use Rattle.page_geometry.proofs.Standing.{active, boxed_document, holder_boxed, 
 use Rattle.page_geometry.proofs.Levels.{count_is}
 use Rattle.page_boxes.proofs.Views.{way_less, no_way}
 
-abbrev number_of : Spot → ℕ
-number_of (Node node) = node.0
-number_of (View document) = document.0
+abbrev number_of : Container → ℕ
+number_of (Element node) = node.0
+number_of (Document document) = document.0
 
-node_number : (a b : Spot) → a ≡ b → number_of a ≡ number_of b
+node_number : (a b : Container) → a ≡ b → number_of a ≡ number_of b
 node_number a b same = ap number_of same
 
 number_same : (a b : ℕ) → a ≡ b → nat_eq a b ≡ true
 number_same a b same = grind (arith, nat_tests)
 
 -- spots are the same or not
-spot_same : (a b : Spot) → (a ≡ b) ⊎ (¬ a ≡ b)
-spot_same (Node a) (Node b) = by_number (nat_eq a.0 b.0) refl
+spot_same : (a b : Container) → (a ≡ b) ⊎ (¬ a ≡ b)
+spot_same (Element a) (Element b) = by_number (nat_eq a.0 b.0) refl
   where
-    by_number : (same : Bool) → nat_eq a.0 b.0 ≡ same → (Node a ≡ Node b) ⊎ (¬ Node a ≡ Node b)
+    by_number : (same : Bool) → nat_eq a.0 b.0 ≡ same → (Element a ≡ Element b) ⊎ (¬ Element a ≡ Element b)
     by_number true is = inl (ap element_spot (eqb-true a.0 b.0 is))
-    by_number false is = inr (λ same. let clash : nat_eq a.0 b.0 ≡ true = number_same a.0 b.0 (node_number (Node a) (Node b) same) in let no : true ≡ false = sym clash ∙ is in cc)
-spot_same (Node a) (View b) = inr (λ same. cc)
-spot_same (View a) (Node b) = inr (λ same. cc)
-spot_same (View a) (View b) = by_number (nat_eq a.0 b.0) refl
+    by_number false is = inr (λ same. let clash : nat_eq a.0 b.0 ≡ true = number_same a.0 b.0 (node_number (Element a) (Element b) same) in let no : true ≡ false = sym clash ∙ is in cc)
+spot_same (Element a) (Document b) = inr (λ same. cc)
+spot_same (Document a) (Element b) = inr (λ same. cc)
+spot_same (Document a) (Document b) = by_number (nat_eq a.0 b.0) refl
   where
-    by_number : (same : Bool) → nat_eq a.0 b.0 ≡ same → (View a ≡ View b) ⊎ (¬ View a ≡ View b)
+    by_number : (same : Bool) → nat_eq a.0 b.0 ≡ same → (Document a ≡ Document b) ⊎ (¬ Document a ≡ Document b)
     by_number true is = inl (ap view_spot (eqb-true a.0 b.0 is))
-    by_number false is = inr (λ same. let clash : nat_eq a.0 b.0 ≡ true = number_same a.0 b.0 (node_number (View a) (View b) same) in let no : true ≡ false = sym clash ∙ is in cc)
+    by_number false is = inr (λ same. let clash : nat_eq a.0 b.0 ≡ true = number_same a.0 b.0 (node_number (Document a) (Document b) same) in let no : true ≡ false = sym clash ∙ is in cc)
 
 -- a root above what is above a spot is above it
-over : (scene : Scene) (low high from : Spot) (between : List Spot) → Leads scene from between low → (¬ low ≡ high) → IsAbove scene high low → IsAbove scene high from
+over : (scene : Scene) (low high from : Container) (between : List Container) → Leads scene from between low → (¬ low ≡ high) → IsAbove scene high low → IsAbove scene high from
 over scene low high from [] leads apart above = above_inwards scene high from low leads apart above
 over scene low high from (next ∷ others) leads apart above =
     elim (spot_same next high) [

@@ -6,16 +6,16 @@ use Rattle.script_model.specs.Margins.{Margins}
 use Rattle.layout_model.specs.Nodes.{Holder, HeldByElement, HeldByPage, HeldByScreen, holder}
 use Rattle.layout_model.proofs.Ancestors.{up_path, proper_parent}
 use Rattle.layout_model.proofs.Holders.{holder_proper}
-use Rattle.page_model.specs.World.{Element, Document, Tree, Root, IntersectionObserver}
+use Rattle.page_model.specs.World.{Element, Document, Tree, Root, IntersectionObserver, InElement, InDocument}
 use Rattle.page_model.specs.Lookups.{element_at, document_at, no_element, no_document, is_listed}
-use Rattle.page_model.specs.Documents.{InElement, InDocument, nodes_of, tree_document}
+use Rattle.page_model.specs.Documents.{nodes_of, tree_document}
 use Rattle.page_model.specs.Shown.{Shown, has_box}
 use Rattle.page_model.specs.Chains.{container_held, holding, most_containers}
 use Rattle.page_model.specs.Findings.{Apart, Boxless, Chained, is_apart, finding}
 use Rattle.page_documents.proofs.Lists.{its_number}
 use Rattle.page_documents.proofs.Standing.{rooted}
-use Rattle.clip_chain.specs.declared.spot.Spot.{Spot}
-use Rattle.clip_chain.specs.declared.spot.Spot.TheVariants.{Node, View}
+use Rattle.element_tree.specs.declared.container.Container.{Container}
+use Rattle.element_tree.specs.declared.container.Container.TheVariants.{Element as Inside, Document as Top}
 use Rattle.clip_chain.specs.Scenes.{Scene}
 use Rattle.clip_chain.specs.Chains.{Leads, IsAbove}
 use Rattle.clip_chain.specs.Worlds.{element_spot, spot_of, spot_of_root, scene_of, view_spot}
@@ -81,33 +81,33 @@ module _ (shown : Shown) (page : IsPageTree (shown.tree)) where
   tree_there : (n d : ℕ) → tree_document tree n ≡ Some d → d < length tree.documents
   tree_there n d is = let it = rooted tree page.framed.trees page.framed.owners n d is in rooted_there d it.root it.is
 
-  in_viewport : (document : Option ℕ) (next : Spot) → ((d : ℕ) → document ≡ Some d → d < length tree.documents)
+  in_viewport : (document : Option ℕ) (next : Container) → ((d : ℕ) → document ≡ Some d → d < length tree.documents)
       → option_map spot_of (option_map InDocument document) ≡ Some next → IsThere tree next
   in_viewport None next there leads = absurd (let no : ⊥ = cc in no)
   in_viewport (Some d) next there leads = subst (IsThere tree) (same_next (view_spot d) next leads) (there d refl)
 
-  in_element : (n : ℕ) (by : Holder) (next : Spot) → holder (nodes_of tree) n ≡ by
+  in_element : (n : ℕ) (by : Holder) (next : Container) → holder (nodes_of tree) n ≡ by
       → option_map spot_of (container_held by (tree_document tree n)) ≡ Some next → IsThere tree next
   in_element n (HeldByElement h) next is leads = subst (IsThere tree) (same_next (element_spot h) next leads) (holder_there n h is)
   in_element n HeldByPage next is leads = in_viewport (tree_document tree n) next (tree_there n) leads
   in_element n HeldByScreen next is leads = in_viewport (tree_document tree n) next (tree_there n) leads
 
-  in_document : (document : ℕ) (frame : Option ℕ) (next : Spot) → (document_at tree document).frame ≡ frame
+  in_document : (document : ℕ) (frame : Option ℕ) (next : Container) → (document_at tree document).frame ≡ frame
       → option_map spot_of (option_map InElement frame) ≡ Some next → IsThere tree (view_spot document) × IsThere tree next
   in_document document (Some frame) next is leads = (framed_there document frame is, subst (IsThere tree) (same_next (element_spot frame) next leads) (frame_there document frame is))
   in_document document None next is leads = absurd (let no : ⊥ = cc in no)
 
-  both_there : (from next : Spot) → scene.container from ≡ Some next → IsThere tree from × IsThere tree next
-  both_there (Node node) next leads =
+  both_there : (from next : Container) → scene.container from ≡ Some next → IsThere tree from × IsThere tree next
+  both_there (Inside node) next leads =
       let found = leads_on (has_box shown (node.0)) (option_map spot_of (holding tree (node.0))) next leads in
       (made_if_boxed tree shown.screen (node.0) found.0, in_element (node.0) (holder (nodes_of tree) (node.0)) next refl found.1)
-  both_there (View document) next leads = in_document document.0 (document_at tree document.0).frame next refl leads
+  both_there (Top document) next leads = in_document document.0 (document_at tree document.0).frame next refl leads
 
-  pub there_along : (from root : Spot) → EachAlong (IsThere tree) scene from root
+  pub there_along : (from root : Container) → EachAlong (IsThere tree) scene from root
   there_along from root [] leads = let ends = both_there from root leads in (ends.0, (ends.1, tt))
   there_along from root (next ∷ others) leads = ((both_there from next leads.0).0, there_along next root others leads.2)
 
-  pub short_of : (from root : Spot) (between : List Spot) → Leads scene from between root → length between ≤ most_containers
+  pub short_of : (from root : Container) (between : List Container) → Leads scene from between root → length between ≤ most_containers
   short_of from root between leads = few_between tree shown.screen shown.scrolls page.framed page.few page.deep from root between leads
 
   -- chains lead to roots

@@ -3,7 +3,7 @@ use Rattle.std.specs.Prelude.{◌≡◌, ℕ}
 use Rattle.std.specs.Ordering.{nat_cmp}
 use Rattle.std.specs.FinMap.{FinMap}
 use Rattle.px_units.specs.declared.Point.{Point}
-use Rattle.page_model.specs.World.{ScrolledDocument}
+use Rattle.page_model.specs.World.{InDocument}
 use Rattle.page_model.specs.Documents.{nodes_of}
 use Rattle.page_model.specs.PageBoxes.{pair_of, stored_in, view_of}
 use Rattle.page_model.specs.Shown.{Shown, scroll_offset}
@@ -17,7 +17,7 @@ pub record ShownIn : Type 0 where
 
 -- the scroll offset in force of a document's viewport
 pub record IsViewOffset (shown : Shown) (document : ℕ) (offset : Point) : Type 0 where
-  pub value : offset ≡ as_point (pair_of (scroll_offset shown (ScrolledDocument document)))
+  pub value : offset ≡ as_point (pair_of (scroll_offset shown (InDocument document)))
   pub range : IsOffset offset
 
 -- scroll offsets in force of elements, of which those in a document are so

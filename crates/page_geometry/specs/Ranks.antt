@@ -7,8 +7,8 @@ use Rattle.page_model.specs.World.{Screen, Tree}
 use Rattle.page_model.specs.Lookups.{element_at, document_at}
 use Rattle.page_model.specs.Documents.{element_depth}
 use Rattle.page_model.specs.PageBoxes.{has_box}
-use Rattle.clip_chain.specs.declared.spot.Spot.{Spot}
-use Rattle.clip_chain.specs.declared.spot.Spot.TheVariants.{Node, View}
+use Rattle.element_tree.specs.declared.container.Container.{Container}
+use Rattle.element_tree.specs.declared.container.Container.TheVariants.{Element, Document}
 
 abbrev pub level_by : (ℕ → ℕ) → Tree → Option ℕ → ℕ
 level_by above tree None = 0
@@ -23,7 +23,7 @@ abbrev pub level_of : Tree → ℕ → ℕ
 level_of tree document = level_up (common_limit limits.Documents) tree document
 
 -- a level of documents has room for all depths of elements
-abbrev pub rank_of : Tree → Screen → Spot → ℕ
-rank_of tree screen (View document) = 257 * level_of tree document.0
-rank_of tree screen (Node node) =
+abbrev pub rank_of : Tree → Screen → Container → ℕ
+rank_of tree screen (Document document) = 257 * level_of tree document.0
+rank_of tree screen (Element node) =
     cond (has_box tree screen (node.0)) (257 * level_of tree (element_at tree (node.0)).document + element_depth tree (node.0)) 0

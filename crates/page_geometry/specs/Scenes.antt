@@ -7,8 +7,8 @@ use Rattle.page_model.specs.Documents.{element_depth}
 use Rattle.page_model.specs.Shown.{Shown}
 use Rattle.page_model.specs.Findings.{relation}
 use Rattle.page_documents.specs.Frames.{AreFramed}
-use Rattle.clip_chain.specs.declared.spot.Spot.{Spot}
-use Rattle.clip_chain.specs.declared.spot.Spot.TheVariants.{Node, View}
+use Rattle.element_tree.specs.declared.container.Container.{Container}
+use Rattle.element_tree.specs.declared.container.Container.TheVariants.{Element, Document}
 use Rattle.candidate_index.specs.declared.scene.Standing.{Standing}
 use Rattle.candidate_index.specs.Worlds.{standing_in, told}
 
@@ -19,9 +19,9 @@ pub record IsPageTree (tree : Tree) : Type 0 where
   pub deep : (n : ℕ) → element_depth tree n ≤ 256
 
 -- a spot of an element or a document that there is
-abbrev pub IsThere : Tree → Spot → Type 0
-IsThere tree (Node node) = node.0 < length tree.elements
-IsThere tree (View document) = document.0 < length tree.documents
+abbrev pub IsThere : Tree → Container → Type 0
+IsThere tree (Element node) = node.0 < length tree.elements
+IsThere tree (Document document) = document.0 < length tree.documents
 
 abbrev pub standings_of : Shown → Root → ℕ → Standing
 standings_of shown root target = standing_in (relation shown root target)

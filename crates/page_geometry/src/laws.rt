@@ -6,7 +6,7 @@ ghost use Rattle.page_model.specs.World.{IntersectionObserver};
 ghost use Rattle.page_model.specs.Shown.{Shown as ModelShown};
 ghost use Rattle.page_model.specs.Chains.{most_containers};
 ghost use Rattle.page_model.specs.Findings.{finding};
-ghost use Rattle.clip_chain.specs.declared.spot.Spot.{Spot as SpotOf};
+ghost use Rattle.element_tree.specs.declared.container.Container.{Container as ContainerOf};
 ghost use Rattle.clip_chain.specs.Chains.{Leads};
 ghost use Rattle.clip_chain.specs.Worlds.{scene_of};
 ghost use Rattle.kept_findings.specs.Walks.{EachAlong, AreChained, found_in};
@@ -16,8 +16,8 @@ ghost use Rattle.page_geometry.specs.Scenes.{IsPageTree, IsThere, standings_of, 
 /// definition of clips looks along, and each spot on one is an element or a document that there is.
 pub fn chains_lead_to_roots()
     ensures chained { (shown : ModelShown) → IsPageTree shown.tree → AreChained (scene_of shown) (standings_of shown) }
-    ensures short { (shown : ModelShown) → IsPageTree shown.tree → (from root : SpotOf) (between : List SpotOf) → Leads (scene_of shown) from between root → length between ≤ most_containers }
-    ensures there { (shown : ModelShown) → IsPageTree shown.tree → (from root : SpotOf) → EachAlong (IsThere shown.tree) (scene_of shown) from root }
+    ensures short { (shown : ModelShown) → IsPageTree shown.tree → (from root : ContainerOf) (between : List ContainerOf) → Leads (scene_of shown) from between root → length between ≤ most_containers }
+    ensures there { (shown : ModelShown) → IsPageTree shown.tree → (from root : ContainerOf) → EachAlong (IsThere shown.tree) (scene_of shown) from root }
 {}
 
 /// What is found over the scene of a page, as an observer with scroll margins sees it, and told, is the definitions' finding.

@@ -25,7 +25,7 @@ mod telling;
 mod view;
 
 pub use laws::{chains_lead_to_roots, what_is_told_is_found};
-pub use meant::{document_read, document_scrolled};
+pub use meant::document_of_container;
 pub use readings::Reading;
 pub use shown::Shown;
 pub use shown_document::ShownDocument;

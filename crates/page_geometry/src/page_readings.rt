@@ -10,22 +10,19 @@ ghost use Rattle.page_model.specs.Chains.{padding_box_at, content_corner_at};
 ghost use Rattle.page_model.specs.PageBoxes.{pair_of};
 ghost use Rattle.page_model.specs.Readings.{point_at, rect_of, reading_of};
 ghost use Rattle.page_model.specs.Shown.{has_box, box_of, size_of, corner_of, viewport_of, place_of, scroll_range, scroll_offset};
-ghost use Rattle.scrolling.specs.Seen.{seen_target};
 ghost use Rattle.scrolling.specs.Ranges.{IsRange};
 ghost use Rattle.block_layout.specs.Seen.{as_size, as_point};
 ghost use Rattle.page_tree.specs.Items.{IsNatural};
-ghost use Rattle.page_tree.specs.Steps.{seen_container};
-ghost use Rattle.page_boxes.specs.Pages.{text_in};
+ghost use Rattle.container_model.specs.Seen.{seen_container};
+ghost use Rattle.page_model.specs.Names.{container_text};
 ghost use Rattle.page_boxes.specs.Ranges.{IsOffset, IsSpan, IsPlace, AreEdges};
 ghost use Rattle.page_geometry.specs.Ranges.{IsCorner};
 
-use crate::meant::{document_read, document_scrolled};
+use crate::meant::document_of_container;
 use crate::readings::Reading;
 use crate::shown::Shown;
-use element_tree::{DocumentId, NodeId};
-use page_tree::Container;
+use element_tree::{Container, DocumentId, NodeId};
 use px_units::{BoxKind, Point, Rect, Size};
-use scrolling::ScrollTarget;
 
 impl Shown<'_> {
     /// Whether an element has a box (CSS 2.2, 9.2.4).
@@ -109,21 +106,21 @@ impl Shown<'_> {
     /// container with a box, and for what isn't there.
     ///
     /// It calls itself once a level of the tree below.
-    pub fn range_of(&self, target: ScrollTarget) -> Size
-        ensures value { result ≡ as_size (pair_of (scroll_range self.now (seen_target target))) }
+    pub fn range_of(&self, target: Container) -> Size
+        ensures value { result ≡ as_size (pair_of (scroll_range self.now (seen_container target))) }
         ensures range { IsRange result }
     {
-        self.in_document(document_scrolled(self.page(), target))
+        self.in_document(document_of_container(self.page(), target))
             .range_of(target)
     }
 
     /// The scroll offset in force of an element or of a document's viewport (CSSOM View, 4 to 6: `scrollTop`, `scrollY`): on each
     /// axis the lesser of the stored position and of how far it can be scrolled.
-    pub fn offset_of(&self, target: ScrollTarget) -> Point
-        ensures value { result ≡ as_point (pair_of (scroll_offset self.now (seen_target target))) }
+    pub fn offset_of(&self, target: Container) -> Point
+        ensures value { result ≡ as_point (pair_of (scroll_offset self.now (seen_container target))) }
         ensures range { IsOffset result }
     {
-        self.in_document(document_scrolled(self.page(), target))
+        self.in_document(document_of_container(self.page(), target))
             .offset_of(target)
     }
 
@@ -131,13 +128,13 @@ impl Shown<'_> {
     /// viewport of the document; and the scroll offset in force.
     pub fn read(&self, container: Container) -> Reading
         ensures value { (names : List Name) → reading_of names self.now.tree self.now.screen self.now.scrolls (seen_container container)
-            ≡ ReadLine (text_in names (seen_container container)) result.rect result.scroll }
+            ≡ ReadLine (container_text names (seen_container container)) result.rect result.scroll }
         ensures edges { RectInReach result.rect }
         ensures width { InReach (result.rect.right -ℤ result.rect.left) }
         ensures height { InReach (result.rect.bottom -ℤ result.rect.top) }
         ensures scroll { IsOffset result.scroll }
     {
-        self.in_document(document_read(self.page(), container))
+        self.in_document(document_of_container(self.page(), container))
             .read(container)
     }
 }

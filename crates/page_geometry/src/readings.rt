@@ -12,19 +12,17 @@ ghost use Rattle.page_model.specs.PageBoxes.{pair_of};
 ghost use Rattle.page_model.specs.Readings.{point_at, rect_of, reading_of};
 ghost use Rattle.page_model.specs.Shown.{box_of, size_of, corner_of, place_of};
 ghost use Rattle.block_layout.specs.Seen.{as_size};
-ghost use Rattle.page_tree.specs.Steps.{seen_container};
-ghost use Rattle.page_boxes.specs.Pages.{text_in};
+ghost use Rattle.container_model.specs.Seen.{seen_container};
+ghost use Rattle.page_model.specs.Names.{container_text};
 ghost use Rattle.page_boxes.specs.Ranges.{IsOffset, IsSpan, IsPlace, IsEdge, AreEdges};
 ghost use Rattle.page_geometry.specs.Ranges.{IsCorner};
 
 use crate::origins::NOWHERE;
 use crate::rects::NO_RECT;
 use crate::shown_document::ShownDocument;
-use element_tree::NodeId;
+use element_tree::{Container, NodeId};
 use page_boxes::{place_in, size_on};
-use page_tree::Container;
 use px_units::{BoxKind, Point, Rect, Size};
-use scrolling::ScrollTarget;
 
 /// What the command `read` shows of an element or a document.
 #[derive(Clone, Copy, Debug, PartialEq, Eq)]
@@ -180,7 +178,7 @@ impl ShownDocument<'_> {
     pub fn read(&self, container: Container) -> Reading
         requires { document_of_container self.now.shown.tree (seen_container container) ≡ self.now.document }
         ensures value { (names : List Name) → reading_of names self.now.shown.tree self.now.shown.screen self.now.shown.scrolls (seen_container container)
-            ≡ ReadLine (text_in names (seen_container container)) result.rect result.scroll }
+            ≡ ReadLine (container_text names (seen_container container)) result.rect result.scroll }
         ensures edges { RectInReach result.rect }
         ensures width { InReach (result.rect.right -ℤ result.rect.left) }
         ensures height { InReach (result.rect.bottom -ℤ result.rect.top) }
@@ -189,11 +187,11 @@ impl ShownDocument<'_> {
         match container {
             Container::Element(node) => Reading {
                 rect: self.border_rect(node),
-                scroll: self.offset_of(ScrollTarget::Node(node)),
+                scroll: self.offset_of(Container::Element(node)),
             },
             Container::Document(document) => Reading {
                 rect: rect_at(NOWHERE, self.viewport()),
-                scroll: self.offset_of(ScrollTarget::Document(document)),
+                scroll: self.offset_of(Container::Document(document)),
             },
         }
     }

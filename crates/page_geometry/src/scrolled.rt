@@ -1,12 +1,12 @@
 //! How far elements and viewports can be scrolled and are scrolled (CSS Overflow 3, 2.2; CSSOM View, 4 to 6).
 
 ghost use Rattle.std.specs.Prelude.{◌≡◌};
-ghost use Rattle.page_model.specs.World.{ScrolledElement, ScrolledDocument};
+ghost use Rattle.page_model.specs.World.{InElement, InDocument};
 ghost use Rattle.page_model.specs.Lookups.{element_at};
 ghost use Rattle.page_model.specs.PageBoxes.{pair_of};
-ghost use Rattle.page_model.specs.Scrolling.{scroll_document};
+ghost use Rattle.page_model.specs.Documents.{document_of_container};
 ghost use Rattle.page_model.specs.Shown.{scroll_range, scroll_offset};
-ghost use Rattle.scrolling.specs.Seen.{seen_target};
+ghost use Rattle.container_model.specs.Seen.{seen_container};
 ghost use Rattle.scrolling.specs.Ranges.{IsRange};
 ghost use Rattle.block_layout.specs.Seen.{as_size, as_point};
 ghost use Rattle.page_boxes.specs.Ranges.{IsOffset};
@@ -14,15 +14,14 @@ ghost use Rattle.page_boxes.specs.Ranges.{IsOffset};
 use crate::origins::NOWHERE;
 use crate::readings::NO_SIZE;
 use crate::shown_document::ShownDocument;
-use element_tree::NodeId;
+use element_tree::{Container, NodeId};
 use page_boxes::{boxed_offset, boxed_range, is_at_start, shown_offset, shown_range};
 use px_units::{Point, Size};
-use scrolling::ScrollTarget;
 
 impl ShownDocument<'_> {
     fn element_range(&self, node: NodeId) -> Size
         requires { (element_at self.now.shown.tree node.0).document ≡ self.now.document }
-        ensures value { result ≡ as_size (pair_of (scroll_range self.now.shown (ScrolledElement node.0))) }
+        ensures value { result ≡ as_size (pair_of (scroll_range self.now.shown (InElement node.0))) }
         ensures range { IsRange result }
     {
         if self.has_box(node) {
@@ -34,7 +33,7 @@ impl ShownDocument<'_> {
 
     // The scrolling range of the document's viewport.
     fn view_range(&self) -> Size
-        ensures value { result ≡ as_size (pair_of (scroll_range self.now.shown (ScrolledDocument self.now.document))) }
+        ensures value { result ≡ as_size (pair_of (scroll_range self.now.shown (InDocument self.now.document))) }
         ensures range { IsRange result }
     {
         match self.shown_root() {
@@ -48,21 +47,21 @@ impl ShownDocument<'_> {
     /// container with a box, and for what isn't there.
     ///
     /// It calls itself once a level of the tree below.
-    pub fn range_of(&self, target: ScrollTarget) -> Size
-        requires { scroll_document self.now.shown.tree (seen_target target) ≡ self.now.document }
-        ensures value { result ≡ as_size (pair_of (scroll_range self.now.shown (seen_target target))) }
+    pub fn range_of(&self, target: Container) -> Size
+        requires { document_of_container self.now.shown.tree (seen_container target) ≡ self.now.document }
+        ensures value { result ≡ as_size (pair_of (scroll_range self.now.shown (seen_container target))) }
         ensures range { IsRange result }
     {
         match target {
-            ScrollTarget::Node(node) => self.element_range(node),
-            ScrollTarget::Document(_) => self.view_range(),
+            Container::Element(node) => self.element_range(node),
+            Container::Document(_) => self.view_range(),
         }
     }
 
     // The scroll offset in force of an element.
     fn element_offset(&self, node: NodeId) -> Point
         requires { (element_at self.now.shown.tree node.0).document ≡ self.now.document }
-        ensures value { result ≡ as_point (pair_of (scroll_offset self.now.shown (ScrolledElement node.0))) }
+        ensures value { result ≡ as_point (pair_of (scroll_offset self.now.shown (InElement node.0))) }
         ensures range { IsOffset result }
     {
         if self.has_box(node) {
@@ -74,10 +73,10 @@ impl ShownDocument<'_> {
 
     // The scroll offset in force of the document's viewport, found anew.
     fn measured_offset(&self) -> Point
-        ensures value { result ≡ as_point (pair_of (scroll_offset self.now.shown (ScrolledDocument self.now.document))) }
+        ensures value { result ≡ as_point (pair_of (scroll_offset self.now.shown (InDocument self.now.document))) }
         ensures range { IsOffset result }
     {
-        let target = ScrollTarget::Document(self.document());
+        let target = Container::Document(self.document());
         if is_at_start(self.scrolls(), target) {
             return NOWHERE;
         }
@@ -91,7 +90,7 @@ impl ShownDocument<'_> {
 
     // The scroll offset in force of the document's viewport.
     pub(crate) fn view_offset(&self) -> Point
-        ensures value { result ≡ as_point (pair_of (scroll_offset self.now.shown (ScrolledDocument self.now.document))) }
+        ensures value { result ≡ as_point (pair_of (scroll_offset self.now.shown (InDocument self.now.document))) }
         ensures range { IsOffset result }
     {
         match self.found_offset() {
@@ -102,14 +101,14 @@ impl ShownDocument<'_> {
 
     /// The scroll offset in force of an element or of a document's viewport (CSSOM View, 4 to 6: `scrollTop`, `scrollY`): on each
     /// axis the lesser of the stored position and of how far it can be scrolled.
-    pub fn offset_of(&self, target: ScrollTarget) -> Point
-        requires { scroll_document self.now.shown.tree (seen_target target) ≡ self.now.document }
-        ensures value { result ≡ as_point (pair_of (scroll_offset self.now.shown (seen_target target))) }
+    pub fn offset_of(&self, target: Container) -> Point
+        requires { document_of_container self.now.shown.tree (seen_container target) ≡ self.now.document }
+        ensures value { result ≡ as_point (pair_of (scroll_offset self.now.shown (seen_container target))) }
         ensures range { IsOffset result }
     {
         match target {
-            ScrollTarget::Node(node) => self.element_offset(node),
-            ScrollTarget::Document(_) => self.view_offset(),
+            Container::Element(node) => self.element_offset(node),
+            Container::Document(_) => self.view_offset(),
         }
     }
 }

@@ -3,7 +3,7 @@
 use Rattle.std.proofs.Common.{◌≡◌, refl, ap, sym, ◌∙◌, subst, arith, ◌≤◌, true≢false}
 use Rattle.std.specs.Prelude.{ℕ, zero, suc, ◌<◌, ◌==◌, Bool, true, false, cond, not, map, filter, filter_map, List, [], ◌∷◌, ◌++◌, length, Option, Some, None, slice_get, unwrap_or, IfSome, ⊤}
 use Rattle.std.specs.List.{AllByRecursion, list_any, cons_option}
-use Rattle.page_model.specs.World.{Extent, Document, ScrollTarget, Observation, ResizeObserver, ResizeObservers, Finding, Entry, Registration, IntersectionObserver, IntersectionObservers, QueryList, Task, Notify, Tree, World}
+use Rattle.page_model.specs.World.{Extent, Document, Container, Observation, ResizeObserver, ResizeObservers, Finding, Entry, Registration, IntersectionObserver, IntersectionObservers, QueryList, Task, Notify, Tree, World}
 use Rattle.page_model.specs.Lookups.{no_document, change_at}
 use Rattle.page_model.specs.Documents.{is_active, is_active_state}
 use Rattle.page_model.specs.Viewports.{with_noted}
@@ -101,7 +101,7 @@ module _ (world : World) where
   pending-next document =
       apart _ refl refl refl refl refl (λ handlers within.
       let counts : Counts = counts_of handlers world in
-      let kept = changed (AllByRecursion (IsScrollIn counts)) (λ (pending : List ScrollTarget). []) (λ pending all. tt) document (world.scrolls.pending) in
+      let kept = changed (AllByRecursion (IsScrollIn counts)) (λ (pending : List Container). []) (λ pending all. tt) document (world.scrolls.pending) in
       let same : length (without_pending document (world.scrolls)).pending ≡ length world.scrolls.pending = kept.same in
       with-scrolls counts world _ within (record {
         elements = within.scrolls.elements;

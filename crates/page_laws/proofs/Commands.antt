@@ -10,10 +10,9 @@ use Rattle.text_io.specs.declared.kinds.LimitKind.TheVariants as limits
 use Rattle.text_io.specs.declared.kinds.ThrowKind.TheVariants.{RangeError, ReferenceError, SyntaxError}
 use Rattle.script_model.specs.MarginText.{margins_of, thresholds_of}
 use Rattle.script_model.specs.Syntax.{Dimension, Operand, Named, Target, Aim, PlainAim, WindowAim, Action, Viewport, SetRatio, MakeBlock, MakeImage, MakeFrame, Append, Before, Remove, SetStyle, Grow, Load, MakeResizeObserver, ObserveResize, UnobserveResize, DisconnectResize, MakeIntersectionObserver, ObserveIntersection, UnobserveIntersection, DisconnectIntersection, TakeIntersections, Listen, Unlisten, MakeQueryList, ScrollTo, ScrollBy, RequestFrame, CancelFrame, SetTimer, ClearTimer, Post, Say, Read}
-use Rattle.page_model.specs.World.{Thing, DocumentThing, ElementThing, QueryListThing, Root, ScrollTarget, IntersectionObservers, EventTarget, Listener, Table, Tree, World}
+use Rattle.page_model.specs.World.{Thing, DocumentThing, ElementThing, QueryListThing, Root, Container, IntersectionObservers, EventTarget, Listener, Table, Tree, World, InElement, InDocument}
 use Rattle.page_model.specs.Lookups.{intersection_observer_at}
 use Rattle.page_model.specs.Names.{named_thing, with_name}
-use Rattle.page_model.specs.Documents.{Container, InElement, InDocument}
 use Rattle.page_model.specs.Scrolling.{scrolled_thing, scrolled_to, scrolled_by}
 use Rattle.page_model.specs.PageBoxes.{scroll_offset}
 use Rattle.page_model.specs.IntersectionObserving.{is_registered, intersection_observations}
@@ -239,12 +238,12 @@ module _ (handlers : Handlers) (world : World) (present other : Present) (same :
       (did _ Added (Entered (λ serial. record { serial = serial; target = at; event = event; handler = called }) (known, is))))
       (λ it change. did _ Done (ListenersChanged it change))
 
-  scrolled : (left top : ℤ) (it : Container) (found : Option ScrollTarget) → Known (container_thing it) →
+  scrolled : (left top : ℤ) (it : Container) (found : Option Container) → Known (container_thing it) →
       scrolled_thing (world.tree) (world.viewports.screen) it ≡ found → Change Known (length handlers) world (scrolled_to left top found world)
   scrolled left top it None known is = Unchanged
   scrolled left top it (Some at) known is = Scrolled left top it at known is
 
-  scrolled-by : (left top : ℤ) (it : Container) (found : Option ScrollTarget) → Known (container_thing it) →
+  scrolled-by : (left top : ℤ) (it : Container) (found : Option Container) → Known (container_thing it) →
       scrolled_thing (world.tree) (world.viewports.screen) it ≡ found → Change Known (length handlers) world (scrolled_by left top found world)
   scrolled-by left top it None known is = Unchanged
   scrolled-by left top it (Some at) known is =

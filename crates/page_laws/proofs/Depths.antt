@@ -7,9 +7,9 @@ use Rattle.text_io.specs.declared.kinds.ThrowKind.{ThrowKind}
 use Rattle.text_io.specs.declared.kinds.ThrowKind.TheVariants.{HierarchyRequestError, NotFoundError}
 use Rattle.text_io.specs.declared.kinds.LimitKind.{LimitKind}
 use Rattle.text_io.specs.declared.kinds.LimitKind.TheVariants as limits
-use Rattle.page_model.specs.World.{Element, Tree}
+use Rattle.page_model.specs.World.{Element, Tree, Container, InElement, InDocument}
 use Rattle.page_model.specs.Lookups.{change_at, change_each, element_at, no_element, without}
-use Rattle.page_model.specs.Documents.{Container, InElement, InDocument, nodes_of, is_inclusive_ancestor, element_depth, levels_of, container_of, unlinked, removed, linked, adopted, shown, inserted, sibling_meant, placed_before, inclusive_descendants}
+use Rattle.page_model.specs.Documents.{nodes_of, is_inclusive_ancestor, element_depth, levels_of, container_of, unlinked, removed, linked, adopted, shown, inserted, sibling_meant, placed_before, inclusive_descendants}
 use Rattle.page_model.specs.Steps.{Step, Did, ◌>>◌, throw_if, met_unless}
 use Rattle.page_model.specs.Commands.{placing, would_hold_itself, is_no_child, is_full, container_depth}
 use Rattle.page_laws.specs.Successors.{OnDid}

@@ -2,13 +2,13 @@
 use Rattle.std.proofs.Common.{◌≡◌, subst}
 use Rattle.std.specs.Prelude.{ℕ, zero, suc, ◌<◌, ◌≤◌, length, ℤ, Bool, true, false, cond, List, [], ◌∷◌, ◌++◌, Some, IfSome, slice_get, unwrap_or}
 use Rattle.std.specs.List.{AllByRecursion, list_any}
-use Rattle.page_model.specs.World.{Extent, Screen, ScrollTarget, ScrolledElement, ScrolledDocument, Scrolls, Observation, ResizeObserver, ResizeObservers, Registration, Entry, IntersectionObserver, IntersectionObservers, Table, Tree, World}
-use Rattle.page_model.specs.Lookups.{no_extent, change_at, put_at, element_at}
-use Rattle.page_model.specs.Documents.{Container, InElement, InDocument, is_root_element}
+use Rattle.page_model.specs.World.{Extent, Screen, Container, InElement, InDocument, Scrolls, Observation, ResizeObserver, ResizeObservers, Registration, Entry, IntersectionObserver, IntersectionObservers, Table, Tree, World}
+use Rattle.page_model.specs.Lookups.{no_extent, change_at, put_at, element_at, is_same_container}
+use Rattle.page_model.specs.Documents.{is_root_element, document_of_container}
 use Rattle.page_model.specs.PageBoxes.{is_scroller}
 use Rattle.page_model.specs.ResizeObserving.{without_observed}
-use Rattle.page_model.specs.Scrolls.{is_same_scroll, pending_of, with_position, with_pending, moved_unless}
-use Rattle.page_model.specs.Scrolling.{scrolled_element, scrolled_thing, scroll_document, scrolled_to}
+use Rattle.page_model.specs.Scrolls.{pending_of, with_position, with_pending, moved_unless}
+use Rattle.page_model.specs.Scrolling.{scrolled_element, scrolled_thing, scrolled_to}
 use Rattle.page_model.specs.Ranges.{Counts, counts_of, IsScrollIn, AreScrollsIn, AreObserved, IsResizeObserverIn, IsIntersectionObserverIn, IsTreeIn, IsThingIn, IsInRange}
 use Rattle.page_laws.proofs.Lists.{IsKept, all-add, all-filter, all-put, put-within, changed}
 use Rattle.page_laws.proofs.Ranges.{with-scrolls}
@@ -73,7 +73,7 @@ table-kept P each {before = before} (Kept test) all = all-filter P test (before.
 
 -- scrolling
 
-entry-in : (P : ScrollTarget → Type 0) (place : ℕ) (lists : List (List ScrollTarget)) → AllByRecursion (AllByRecursion P) lists →
+entry-in : (P : Container → Type 0) (place : ℕ) (lists : List (List Container)) → AllByRecursion (AllByRecursion P) lists →
     AllByRecursion P (unwrap_or (slice_get lists place) [])
 entry-in P place [] all = tt
 entry-in P zero (x ∷ xs) all = all.0
@@ -83,21 +83,21 @@ pub pending-in : (counts : Counts) (document : ℕ) (it : Scrolls) → AreScroll
 pending-in counts document it are = entry-in (IsScrollIn counts) document (it.pending) are.pending
 
 module _ (counts : Counts) where
-  listed-in : (target : ScrollTarget) (pending : List ScrollTarget) (already : Bool) → IsScrollIn counts target → AllByRecursion (IsScrollIn counts) pending →
+  listed-in : (target : Container) (pending : List Container) (already : Bool) → IsScrollIn counts target → AllByRecursion (IsScrollIn counts) pending →
       AllByRecursion (IsScrollIn counts) (cond already pending (pending ++ target ∷ []))
   listed-in target pending true is all = all
   listed-in target pending false is all = all-add (IsScrollIn counts) pending target all is
 
-  position-in : (target : ScrollTarget) (position : Extent) (it : Scrolls) → IsScrollIn counts target → AreScrollsIn counts it →
+  position-in : (target : Container) (position : Extent) (it : Scrolls) → IsScrollIn counts target → AreScrollsIn counts it →
       AreScrollsIn counts (with_position target position it)
-  position-in (ScrolledElement n) position it is are =
+  position-in (InElement n) position it is are =
       let fits : length (put_at no_extent n position (it.elements)) ≤ counts.elements = put-within (counts.elements) _ n position (it.elements) is are.elements in
       assumption
-  position-in (ScrolledDocument document) position it is are =
+  position-in (InDocument document) position it is are =
       let fits : length (put_at no_extent document position (it.documents)) ≤ counts.documents =
       put-within (counts.documents) _ document position (it.documents) is are.documents in assumption
 
-  put-pending-in : (document : ℕ) (target : ScrollTarget) (it : Scrolls) → document < counts.documents → IsScrollIn counts target → AreScrollsIn counts it →
+  put-pending-in : (document : ℕ) (target : Container) (it : Scrolls) → document < counts.documents → IsScrollIn counts target → AreScrollsIn counts it →
       AreScrollsIn counts (with_pending document target it)
   put-pending-in document target it is-document is are = record {
     elements = are.elements;
@@ -105,11 +105,11 @@ module _ (counts : Counts) where
     listed = put-within (counts.documents) [] document _ (it.pending) is-document are.listed;
     pending =
         all-put (AllByRecursion (IsScrollIn counts)) [] document _ (it.pending) tt
-        (listed-in target (pending_of document it) (list_any (is_same_scroll target) (pending_of document it)) is
+        (listed-in target (pending_of document it) (list_any (is_same_container target) (pending_of document it)) is
         (pending-in counts document it are)) are.pending;
   }
 
-  scrolled-in : (already : Bool) (document : ℕ) (target : ScrollTarget) (position : Extent) (it : Scrolls) → document < counts.documents →
+  scrolled-in : (already : Bool) (document : ℕ) (target : Container) (position : Extent) (it : Scrolls) → document < counts.documents →
       IsScrollIn counts target → AreScrollsIn counts it → AreScrollsIn counts (moved_unless already document target position it)
   scrolled-in true document target position it is-document is are = are
   scrolled-in false document target position it is-document is are = put-pending-in document target _ is-document is (position-in target position it is are)
@@ -125,13 +125,13 @@ module _ (counts : Counts) where
   thing-scroll-in tree screen (InElement n) top within is-in = element-scroll-in tree n (is_root_element tree n) (is_scroller tree screen n) top within is-in
   thing-scroll-in tree screen (InDocument document) top within is-in = is-in
 
-  list-document-in : (tree : Tree) (target : ScrollTarget) → 0 < counts.documents → IsTreeIn counts tree → IsScrollIn counts target →
-      scroll_document tree target < counts.documents
-  list-document-in tree (ScrolledElement n) top within is = (found-in counts (tree.elements) n top within.elements).document
-  list-document-in tree (ScrolledDocument document) top within is = is
+  list-document-in : (tree : Tree) (target : Container) → 0 < counts.documents → IsTreeIn counts tree → IsScrollIn counts target →
+      document_of_container tree target < counts.documents
+  list-document-in tree (InElement n) top within is = (found-in counts (tree.elements) n top within.elements).document
+  list-document-in tree (InDocument document) top within is = is
 
 module _ (handlers : ℕ) (world : World) (within : IsInRange handlers world) where
-  pub scroll-in : (left top : ℤ) (container : Container) (target : ScrollTarget) → IsContainerIn (counts_of handlers world) container →
+  pub scroll-in : (left top : ℤ) (container : Container) (target : Container) → IsContainerIn (counts_of handlers world) container →
       scrolled_thing (world.tree) (world.viewports.screen) container ≡ Some target → IsInRange handlers (scrolled_to left top (Some target) world)
   scroll-in left top container target there is =
       let counts : Counts = counts_of handlers world in
@@ -139,5 +139,5 @@ module _ (handlers : ℕ) (world : World) (within : IsInRange handlers world) wh
       subst (λ found. IfSome found (IsScrollIn counts)) is
       (thing-scroll-in counts (world.tree) (world.viewports.screen) container within.top within.tree there) in
       with-scrolls counts world _ within
-      (scrolled-in counts _ (scroll_document (world.tree) target) target _ (world.scrolls)
+      (scrolled-in counts _ (document_of_container (world.tree) target) target _ (world.scrolls)
       (list-document-in counts (world.tree) target within.top within.tree in_range) in_range within.scrolls)

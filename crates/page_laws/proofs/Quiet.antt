@@ -4,10 +4,10 @@ use Rattle.std.specs.Prelude.{ℕ, zero, suc, ◌&&◌, ◌==◌, Bool, true, fa
 use Rattle.std.specs.List.{AllByRecursion, list_any}
 use Rattle.text_io.specs.declared.kinds.EventKind.TheVariants as events
 use Rattle.script_model.specs.TraceLines.{TraceLine, TickLine, FiredResize, FiredScroll, FiredError}
-use Rattle.page_model.specs.World.{World, Document, Extent, ScrollTarget, Timer, FrameCallback, ResizeObserver, Finding, IntersectionObserver, IntersectionObservers, WindowTarget}
+use Rattle.page_model.specs.World.{World, Document, Extent, Container, Timer, FrameCallback, ResizeObserver, Finding, IntersectionObserver, IntersectionObservers, WindowTarget}
 use Rattle.page_model.specs.Lookups.{change_at, put_at, entry_or, document_at, no_document, same_extent}
 use Rattle.page_model.specs.Documents.{is_active, is_active_state, active_documents}
-use Rattle.page_model.specs.Names.{document_text}
+use Rattle.page_model.specs.Names.{document_text, container_text}
 use Rattle.page_model.specs.PageBoxes.{viewport_of, view_of, framed_size, extent_of}
 use Rattle.page_model.specs.Viewports.{differs_from, noted_size, with_noted}
 use Rattle.page_model.specs.Scrolls.{pending_of, without_pending}
@@ -19,7 +19,7 @@ use Rattle.page_model.specs.Runs.{Said, Turn, silent, say, behind, ◌followed_b
 use Rattle.page_model.specs.Callbacks.{Script, while_active, fire}
 use Rattle.page_model.specs.Intersections.{places_from, is_rooted_in, settled_observer, settling, watchers, has_queued, found_now, update_intersections, with_notify_task}
 use Rattle.page_model.specs.Loop.{gather, round, report_skipped, resize_loop}
-use Rattle.page_model.specs.Ticks.{run_timer, run_timers, resize_steps, event_target_of, scrolled_text, scroll_steps, evaluate, media_steps, run_frame_callback, frame_steps, parts_of_update, update_rendering, run_first, run_tasks, tick}
+use Rattle.page_model.specs.Ticks.{run_timer, run_timers, resize_steps, event_target_of, scroll_steps, evaluate, media_steps, run_frame_callback, frame_steps, parts_of_update, update_rendering, run_first, run_tasks, tick}
 use Rattle.page_laws.specs.Quiet.{IsQuiet}
 use Rattle.page_laws.proofs.Later.{all-so}
 use Rattle.page_laws.proofs.Places.{repeat-not, and-false}
@@ -121,7 +121,7 @@ noted-quiet world size is quiet =
     ∙ subst (λ it. differs_from (world.viewports.screen.size) (Some it) ≡ false) (sym is) (ap not (same-size (world.viewports.screen.size))))
     (quiet.resize_observers) (quiet.intersection_observers)
 
-none-pending : (lists : List (List ScrollTarget)) → entry_or [] (change_at (λ (pending : List ScrollTarget). []) 0 lists) 0 ≡ []
+none-pending : (lists : List (List Container)) → entry_or [] (change_at (λ (pending : List Container). []) 0 lists) 0 ≡ []
 none-pending [] = refl
 none-pending (x ∷ xs) = refl
 
@@ -151,7 +151,7 @@ resize-hushed script world quiet =
 scroll-hushed : (script : Script) (world : World) → IsQuiet world → IsHushed (scroll_steps script 0 world)
 unfolding scroll_steps
 scroll-hushed script world quiet =
-    for_each-none (λ target. while_active 0 (λ now. fire script (FiredScroll (scrolled_text (now.names) target)) (event_target_of target) events.Scroll now))
+    for_each-none (λ target. while_active 0 (λ now. fire script (FiredScroll (container_text (now.names) target)) (event_target_of target) events.Scroll now))
     (pending_of 0 (world.scrolls))
     (record world { scrolls = without_pending 0 (world.scrolls) })
     (quiet.pending)

@@ -3,7 +3,7 @@ use Rattle.std.proofs.Common.{◌≡◌, arith, ◌≤◌}
 use Rattle.std.specs.Prelude.{ℕ, ◌<◌, List, length, Option, IfSome}
 use Rattle.std.specs.List.{AllByRecursion}
 use Rattle.script_model.specs.Margins.{Margins}
-use Rattle.page_model.specs.World.{Element, Document, Tree, Scrolls, ScrollTarget, ScrolledElement, ScrolledDocument, Thing, DocumentThing, ElementThing, ResizeObserverThing, IntersectionObserverThing, QueryListThing, Name, Observation, ResizeObserver, ResizeObservers, Root, ImplicitRoot, DocumentRoot, ElementRoot, Registration, Entry, IntersectionObserver, IntersectionObservers, QueryList, EventTarget, ElementTarget, DocumentTarget, WindowTarget, QueryTarget, Task, Notify, Posted, World}
+use Rattle.page_model.specs.World.{Element, Document, Tree, Scrolls, Container, InElement, InDocument, Thing, DocumentThing, ElementThing, ResizeObserverThing, IntersectionObserverThing, QueryListThing, Name, Observation, ResizeObserver, ResizeObservers, Root, ImplicitRoot, DocumentRoot, ElementRoot, Registration, Entry, IntersectionObserver, IntersectionObservers, QueryList, EventTarget, ElementTarget, DocumentTarget, WindowTarget, QueryTarget, Task, Notify, Posted, World}
 use Rattle.page_model.specs.Ranges.{Counts, counts_of, IsElementIn, IsScrollIn, IsDocumentIn, IsTreeIn, AreScrollsIn, IsThingIn, IsResizeObserverIn, IsRootIn, IsIntersectionObserverIn, IsEventTargetIn, IsListenerIn, IsFrameCallbackIn, IsTimerIn, IsTaskIn, IsWithin, IsInRange}
 use Rattle.page_laws.proofs.Lists.{all-map, some-map, IsKept}
 
@@ -38,9 +38,9 @@ module _ (counts more : Counts) (grows : IsMore counts more) where
     framed = some-below grows.documents (it.framed) is.framed;
   }
 
-  scroll-more : (it : ScrollTarget) → IsScrollIn counts it → IsScrollIn more it
-  scroll-more (ScrolledElement n) is = below grows.elements is
-  scroll-more (ScrolledDocument document) is = below grows.documents is
+  scroll-more : (it : Container) → IsScrollIn counts it → IsScrollIn more it
+  scroll-more (InElement n) is = below grows.elements is
+  scroll-more (InDocument document) is = below grows.documents is
 
   document-more : (it : Document) → IsDocumentIn counts it → IsDocumentIn more it
   document-more it is = record { frame = some-below grows.elements (it.frame) is.frame; root = some-below grows.elements (it.root) is.root }

@@ -2,9 +2,9 @@
 use Rattle.std.proofs.Common.{◌≡◌, refl, ◌∙◌, subst, sym}
 use Rattle.std.specs.Prelude.{ℕ, zero, suc, ◌<◌, Bool, true, false, cond, not, ◌==◌, IsTrue, length, List, [], ◌∷◌, slice_get, unwrap_or, Option, Some, None, ⊤}
 use Rattle.std.specs.List.{AllByRecursion}
-use Rattle.page_model.specs.World.{Element, DocumentState, Active, Dead, Document, Thing, ElementThing, Tree}
+use Rattle.page_model.specs.World.{Element, DocumentState, Active, Dead, Document, Thing, ElementThing, Tree, Container, InElement, InDocument}
 use Rattle.page_model.specs.Lookups.{no_element, without, change_element, change_document}
-use Rattle.page_model.specs.Documents.{Container, InElement, InDocument, is_active_state, is_fresh_state, container_of, stands_in_active, documents_inside, frames_in, inclusive_descendants, with_state, unlinked, removed, placed_before, sibling_meant, linked, document_of_container, adopted, shown, inserted, frame_levels}
+use Rattle.page_model.specs.Documents.{is_active_state, is_fresh_state, container_of, stands_in_active, documents_inside, frames_in, inclusive_descendants, with_state, unlinked, removed, placed_before, sibling_meant, linked, document_of_container, adopted, shown, inserted, frame_levels}
 use Rattle.page_model.specs.Steps.{Did}
 use Rattle.page_model.specs.Commands.{placing}
 use Rattle.page_model.specs.Ranges.{Counts, IsElementIn, IsDocumentIn, IsTreeIn, IsThingIn}

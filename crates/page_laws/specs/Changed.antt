@@ -7,10 +7,10 @@ use Rattle.text_io.specs.Limits.{limit_number}
 use Rattle.text_io.specs.declared.kinds.LimitKind.TheVariants as limits
 use Rattle.script_model.specs.Margins.{Margins}
 use Rattle.script_model.specs.Queries.{MediaQuery}
-use Rattle.page_model.specs.World.{Screen, ScrollTarget, Thing, DocumentThing, ElementThing, ResizeObserverThing, IntersectionObserverThing, QueryListThing, ResizeObservers, Root, ImplicitRoot, DocumentRoot, ElementRoot, IntersectionObservers, EventTarget, ElementTarget, DocumentTarget, WindowTarget, QueryTarget, Listener, FrameCallback, Timer, Posted, Table, Tree, World}
+use Rattle.page_model.specs.World.{Screen, Container, Thing, DocumentThing, ElementThing, ResizeObserverThing, IntersectionObserverThing, QueryListThing, ResizeObservers, Root, ImplicitRoot, DocumentRoot, ElementRoot, IntersectionObservers, EventTarget, ElementTarget, DocumentTarget, WindowTarget, QueryTarget, Listener, FrameCallback, Timer, Posted, Table, Tree, World, InElement, InDocument}
 use Rattle.page_model.specs.Lookups.{entered, kept, put_at, no_margins}
 use Rattle.page_model.specs.Names.{with_name}
-use Rattle.page_model.specs.Documents.{Container, InElement, InDocument, removed}
+use Rattle.page_model.specs.Documents.{removed}
 use Rattle.page_model.specs.Edits.{change_item, with_element, with_frame}
 use Rattle.page_model.specs.ResizeObserving.{with_resize_observer, with_resize_target, without_resize_target, without_resize_targets}
 use Rattle.page_model.specs.IntersectionObserving.{with_intersection_observer, with_registration, without_registration, without_registrations, without_queue}
@@ -89,7 +89,7 @@ pub data Change (Known : Thing → Type 0) (handlers : ℕ) (world : World) : Wo
         names = with_name inside (DocumentThing (length world.tree.documents)) (with_name name (ElementThing (length world.tree.elements)) (world.names));
         tree = with_frame document (world.tree);
       })
-  Scrolled : (left top : ℤ) (container : Container) (target : ScrollTarget) → Known (container_thing container) →
+  Scrolled : (left top : ℤ) (container : Container) (target : Container) → Known (container_thing container) →
       scrolled_thing (world.tree) (world.viewports.screen) container ≡ Some target → Change Known handlers world (scrolled_to left top (Some target) world)
   ResizeObserverMade : (name : List ℕ) (document : ℕ) (handler : Option ℕ) → Known (DocumentThing document) → IfSome handler (λ called. called < handlers) →
       length world.resize_observers.made < limit_number (world.version) limits.ResizeObservers → Change Known handlers world (record world {

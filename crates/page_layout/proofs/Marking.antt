@@ -4,8 +4,8 @@ use Rattle.std.proofs.lemmas.Bool.{or_cases, false≢true}
 use Rattle.layout_model.specs.Nodes.{Node, is_in_path}
 use Rattle.element_tree.specs.Forest.{names}
 use Rattle.element_tree.proofs.Levels.{names_some}
-use Rattle.page_model.specs.World.{Tree}
-use Rattle.page_model.specs.Documents.{Container, InElement, InDocument, nodes_of}
+use Rattle.page_model.specs.World.{Tree, Container, InElement, InDocument}
+use Rattle.page_model.specs.Documents.{nodes_of}
 use Rattle.page_documents.specs.Frames.{MakeTrees}
 use Rattle.block_layout.proofs.Ancestors.{in_self}
 use Rattle.kept_layout.specs.declared.slots.Slot.{Slot}

@@ -1,8 +1,8 @@
 -- Which elements a call marks, and what is kept between a change and its marks.
 use Rattle.std.specs.Prelude.{◌≡◌, ◌≤◌, ℕ, Bool, false, ◌||◌, Option, Some, None, List, length}
 use Rattle.layout_model.specs.Nodes.{is_in_path}
-use Rattle.page_model.specs.World.{Tree}
-use Rattle.page_model.specs.Documents.{Container, InElement, InDocument, nodes_of}
+use Rattle.page_model.specs.World.{Tree, Container, InElement, InDocument}
+use Rattle.page_model.specs.Documents.{nodes_of}
 use Rattle.kept_layout.specs.declared.slots.Slot.{Slot}
 use Rattle.kept_layout.specs.Slots.{slot_in, marked_if}
 use Rattle.kept_layout.specs.Sound.{IsSoundBut}

@@ -14,7 +14,8 @@ ghost use Rattle.page_model.specs.Commands.{placing, growing, loading};
 ghost use Rattle.block_layout.specs.Seen.{seen_kind};
 ghost use Rattle.page_tree.specs.Items.{IsKind, IsNatural};
 ghost use Rattle.page_tree.specs.Faults.{refusal, element_room, frame_room, IsMakeFault, IsFrameFault};
-ghost use Rattle.page_tree.specs.Steps.{seen_container, IsContainerIn};
+ghost use Rattle.container_model.specs.Seen.{seen_container};
+ghost use Rattle.page_tree.specs.Steps.{IsContainerIn};
 ghost use Rattle.page_boxes.specs.Around.{rests_on, LeavesOthers};
 ghost use Rattle.page_boxes.specs.Fresh.{IsFresh, IsFreshIn, IsFreshAbove, IsFreshFor};
 ghost use Rattle.page_boxes.specs.Kept.{AreKept, FillsOnly, IsExact, is_due, due_count};
@@ -23,10 +24,10 @@ ghost use Rattle.page_layout.specs.Marks.{element_of, is_over, MarksOnly, MarksN
 
 use crate::marks::{element_of, mark, parent_of};
 use block_layout::ItemKind;
-use element_tree::{DocumentId, NodeId};
+use element_tree::{Container, DocumentId, NodeId};
 use kept_layout::Kept;
 use page_boxes::{Screen, refresh, refresh_for, refresh_in, undue_boxes_are_exact};
-use page_tree::{Container, MakeFault, PageTree, PlaceFault};
+use page_tree::{MakeFault, PageTree, PlaceFault};
 use px_units::{Px, Size};
 use std::alloc::{AllocError, Global};
 use std::marker::Model;

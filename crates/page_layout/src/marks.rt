@@ -4,12 +4,12 @@ ghost use Rattle.std.specs.Prelude.{◌≡◌, ◌<◌, ◌≤◌, length, optio
 ghost use Rattle.std.specs.Option.{ForSome};
 ghost use Rattle.element_tree.specs.Links.{number};
 ghost use Rattle.page_model.specs.Documents.{nodes_of};
-ghost use Rattle.page_tree.specs.Steps.{seen_container};
+ghost use Rattle.container_model.specs.Seen.{seen_container};
 ghost use Rattle.page_layout.specs.Marks.{element_of, is_over, Mends, MarksOnly};
 
-use element_tree::NodeId;
+use element_tree::{Container, NodeId};
 use kept_layout::Kept;
-use page_tree::{Container, PageTree};
+use page_tree::PageTree;
 
 // The element that an element is a child of.
 pub(crate) fn parent_of(page: &PageTree, node: NodeId) -> Option<NodeId>

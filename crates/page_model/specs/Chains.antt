@@ -9,9 +9,9 @@ use Rattle.layout_model.specs.Boxes.{Box, padding_size, padding_corner, inner_co
 use Rattle.layout_model.specs.Clips.{clips, is_scroll_container}
 use Rattle.layout_model.specs.Nodes.{Holder, HeldByElement, HeldByPage, HeldByScreen, holder}
 use Rattle.script_model.specs.Margins.{MarginPart, MarginPixels, MarginPercentage, Margins}
-use Rattle.page_model.specs.World.{Tree, Root, ImplicitRoot, DocumentRoot, ElementRoot}
+use Rattle.page_model.specs.World.{Tree, Root, ImplicitRoot, DocumentRoot, ElementRoot, Container, InElement, InDocument}
 use Rattle.page_model.specs.Lookups.{element_at, document_at}
-use Rattle.page_model.specs.Documents.{frame_levels, Container, InElement, InDocument, nodes_of, tree_document}
+use Rattle.page_model.specs.Documents.{frame_levels, nodes_of, tree_document}
 use Rattle.page_model.specs.PageBoxes.{extent_of}
 use Rattle.page_model.specs.PageBoxes as boxes
 use Rattle.page_model.specs.Shown.{Shown, viewport_of, has_box, box_of, size_of, place_of}

@@ -11,10 +11,10 @@ use Rattle.text_io.specs.declared.kinds.LimitKind.TheVariants as limits
 use Rattle.script_model.specs.Syntax.{Dimension, Action, Viewport, SetRatio, MakeBlock, MakeImage, MakeFrame, Append, Before, Remove, SetStyle, Grow, Load, MakeResizeObserver, ObserveResize, UnobserveResize, DisconnectResize, MakeIntersectionObserver, ObserveIntersection, UnobserveIntersection, DisconnectIntersection, TakeIntersections, Listen, Unlisten, MakeQueryList, ScrollTo, ScrollBy, RequestFrame, CancelFrame, SetTimer, ClearTimer, Post, Say, Read, Test, Wider, Taller, Matches, Attached, Seen, Condition}
 use Rattle.script_model.specs.TraceLines.{TakeLine, SayLine}
 use Rattle.script_model.specs.Queries.{MediaQuery}
-use Rattle.page_model.specs.World.{Extent, Entry, EventTarget, Posted, ElementThing, DocumentThing, ResizeObserverThing, IntersectionObserverThing, QueryListThing, Listener, IntersectionObservers, Table, Tree, World}
-use Rattle.page_model.specs.Lookups.{no_margins, put_at, element_at, document_at, resize_observer_at, intersection_observer_at, query_list_at}
+use Rattle.page_model.specs.World.{Extent, Entry, EventTarget, Posted, ElementThing, DocumentThing, ResizeObserverThing, IntersectionObserverThing, QueryListThing, Listener, IntersectionObservers, Table, Tree, World, Container, InElement, InDocument}
+use Rattle.page_model.specs.Lookups.{no_margins, put_at, element_at, document_at, resize_observer_at, intersection_observer_at, query_list_at, is_same_container}
 use Rattle.page_model.specs.Names.{with_name, intersection_observer_text}
-use Rattle.page_model.specs.Documents.{Container, InElement, InDocument, is_same_container, container_of, is_inclusive_ancestor, element_depth, levels_of, removed, inserted}
+use Rattle.page_model.specs.Documents.{container_of, is_inclusive_ancestor, element_depth, levels_of, removed, inserted}
 use Rattle.text_io.specs.Limits.{common_limit}
 use Rattle.script_model.specs.Media.{matches}
 use Rattle.script_model.specs.MarginText.{margins_of, thresholds_of}

@@ -2,7 +2,7 @@
 -- document is Fresh until its frame is shown, and Dead for good once its frame was taken out, is this project's own.
 use Rattle.std.specs.Prelude.{ℕ, zero, suc, max, Bool, true, false, ◌==◌, cond, List, [], ◌∷◌, ◌++◌, map, flat_map, filter, filter_map, fold, Option, Some, None}
 use Rattle.layout_model.specs.Nodes.{Node, levels, top_of, is_in_path, depth_of}
-use Rattle.page_model.specs.World.{Element, DocumentState, Fresh, Active, Dead, Tree}
+use Rattle.page_model.specs.World.{Element, DocumentState, Fresh, Active, Dead, Tree, Container, InElement, InDocument}
 use Rattle.page_model.specs.Lookups.{element_at, document_at, change_each, change_element, change_document, without}
 
 -- how many frames deep documents are looked for: more than there can be documents, a bound of this project
@@ -47,16 +47,6 @@ unfoldable pub levels_of : Tree → ℕ → ℕ
 unfolding levels_down
 levels_of tree n = levels_down levels tree n
 
--- where an element stands: as a child of an element, or as the root element of a document
-pub data Container : Type 0 where
-  InElement : (parent : ℕ) → Container
-  InDocument : (document : ℕ) → Container
-
-abbrev pub is_same_container : Container → Container → Bool
-is_same_container (InElement a) (InElement b) = a == b
-is_same_container (InDocument a) (InDocument b) = a == b
-is_same_container a b = false
-
 abbrev pub is_number : Option ℕ → ℕ → Bool
 is_number None n = false
 is_number (Some m) n = m == n
@@ -70,6 +60,7 @@ container_by (Some parent) is_root document = Some (InElement parent)
 container_by None true document = Some (InDocument document)
 container_by None false document = None
 
+-- where an element stands: as a child of an element, or as the root element of a document
 abbrev pub container_of : Tree → ℕ → Option Container
 container_of tree n = container_by (element_at tree n).parent (is_root_element tree n) (element_at tree n).document
 
@@ -174,8 +165,9 @@ linked tree (InElement parent) n sibling =
     (change_element (λ element. record element { parent = Some parent }) n tree)
 linked tree (InDocument document) n sibling = change_document (λ it. record it { root = Some n }) document tree
 
+-- the node document of an element, or the document itself
 abbrev pub document_of_container : Tree → Container → ℕ
-document_of_container tree (InElement parent) = (element_at tree parent).document
+document_of_container tree (InElement n) = (element_at tree n).document
 document_of_container tree (InDocument document) = document
 
 -- adopting (DOM, 4.5): the node document of an element and its descendants

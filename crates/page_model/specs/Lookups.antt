@@ -6,13 +6,18 @@ use Rattle.std.specs.List.{list_any}
 use Rattle.layout_model.specs.Styles.{all_four, first_style}
 use Rattle.layout_model.specs.Items.{BlockKind, Item}
 use Rattle.script_model.specs.Margins.{MarginPixels, Margins}
-use Rattle.page_model.specs.World.{Extent, Element, Document, Dead, Tree, ResizeObserver, ResizeObservers, ImplicitRoot, IntersectionObserver, IntersectionObservers, QueryList, Table}
+use Rattle.page_model.specs.World.{Extent, Element, Document, Dead, Tree, Container, InElement, InDocument, ResizeObserver, ResizeObservers, ImplicitRoot, IntersectionObserver, IntersectionObservers, QueryList, Table}
 
 abbrev pub no_extent : Extent
 no_extent = record { across = 0; down = 0 }
 
 abbrev pub same_extent : Extent → Extent → Bool
 same_extent a b = cond (a.across == b.across) (a.down == b.down) false
+
+abbrev pub is_same_container : Container → Container → Bool
+is_same_container (InElement a) (InElement b) = a == b
+is_same_container (InDocument a) (InDocument b) = a == b
+is_same_container a b = false
 
 -- an entry of a list by number that may end before it
 abbrev pub entry_or : {A : Type 0} → A → List A → ℕ → A

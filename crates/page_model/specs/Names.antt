@@ -1,6 +1,6 @@
 -- The names of things, by which commands speak of them: this project's own. A name that was given is never free again.
 use Rattle.std.specs.Prelude.{ℕ, Bool, false, ◌==◌, List, [], ◌∷◌, ◌++◌, find, option_map, unwrap_or, Option, bytes_eq, is_some}
-use Rattle.page_model.specs.World.{Thing, DocumentThing, ElementThing, ResizeObserverThing, IntersectionObserverThing, QueryListThing, Name}
+use Rattle.page_model.specs.World.{Container, InElement, InDocument, Thing, DocumentThing, ElementThing, ResizeObserverThing, IntersectionObserverThing, QueryListThing, Name}
 
 abbrev pub is_same_thing : Thing → Thing → Bool
 is_same_thing (DocumentThing a) (DocumentThing b) = a == b
@@ -26,6 +26,10 @@ element_text names n = text_of names (ElementThing n)
 
 abbrev pub document_text : List Name → ℕ → List ℕ
 document_text names n = text_of names (DocumentThing n)
+
+abbrev pub container_text : List Name → Container → List ℕ
+container_text names (InElement n) = element_text names n
+container_text names (InDocument document) = document_text names document
 
 abbrev pub resize_observer_text : List Name → ℕ → List ℕ
 resize_observer_text names n = text_of names (ResizeObserverThing n)

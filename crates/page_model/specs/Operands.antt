@@ -4,9 +4,8 @@
 use Rattle.std.specs.Prelude.{ℕ, Bool, ◌||◌, List, Option, Some, None, position, bytes_eq}
 use Rattle.text_io.specs.declared.kinds.ThrowKind.TheVariants.{ReferenceError, TypeError}
 use Rattle.script_model.specs.Syntax.{Operand, Named, Target, Aim, PlainAim, WindowAim}
-use Rattle.page_model.specs.World.{Thing, DocumentThing, ElementThing, ResizeObserverThing, IntersectionObserverThing, QueryListThing, Root, ImplicitRoot, DocumentRoot, ElementRoot, EventTarget, ElementTarget, DocumentTarget, WindowTarget, QueryTarget, Name}
+use Rattle.page_model.specs.World.{Thing, DocumentThing, ElementThing, ResizeObserverThing, IntersectionObserverThing, QueryListThing, Root, ImplicitRoot, DocumentRoot, ElementRoot, EventTarget, ElementTarget, DocumentTarget, WindowTarget, QueryTarget, Name, Container, InElement, InDocument}
 use Rattle.page_model.specs.Names.{named_thing, is_taken}
-use Rattle.page_model.specs.Documents.{Container, InElement, InDocument}
 use Rattle.page_model.specs.Steps.{Step, Did, Threw, ◌>>=◌, required, throw_if}
 
 -- the entry that a callback's block is run for: none, that of a resize observer, or that of an intersection observer with

@@ -10,7 +10,7 @@ use Rattle.layout_model.specs.Clips.{is_scroll_container}
 use Rattle.layout_model.specs.Views.{View, inputs_in_view}
 use Rattle.layout_model.specs.Reach.{range_of, range_of_view}
 use Rattle.layout_model.specs.Places.{place_in}
-use Rattle.page_model.specs.World.{Extent, Screen, DocumentState, Fresh, Active, Dead, ScrollTarget, ScrolledElement, ScrolledDocument, Scrolls, Tree}
+use Rattle.page_model.specs.World.{Extent, Screen, DocumentState, Fresh, Active, Dead, Container, InElement, InDocument, Scrolls, Tree}
 use Rattle.page_model.specs.Lookups.{element_at, document_at}
 use Rattle.page_model.specs.Documents.{frame_levels, nodes_of}
 use Rattle.page_model.specs.Scrolls.{position_of, offset_of as offset_within}
@@ -110,27 +110,27 @@ abbrev pub range_if : Tree → Screen → ℕ → Bool → ℕ × ℕ
 range_if tree screen n true = range_of (nodes_of tree) (view_at tree screen n) n
 range_if tree screen n false = (0, 0)
 
-abbrev pub range_by : Tree → Screen → ScrollTarget → ℕ × ℕ
-range_by tree screen (ScrolledElement n) = range_if tree screen n (is_scroller tree screen n)
-range_by tree screen (ScrolledDocument document) = range_of_view (nodes_of tree) (view_of tree screen document)
+abbrev pub range_by : Tree → Screen → Container → ℕ × ℕ
+range_by tree screen (InElement n) = range_if tree screen n (is_scroller tree screen n)
+range_by tree screen (InDocument document) = range_of_view (nodes_of tree) (view_of tree screen document)
 
-unfoldable pub scroll_range : Tree → Screen → ScrollTarget → Extent
+unfoldable pub scroll_range : Tree → Screen → Container → Extent
 unfolding is_scroller view_of range_of range_of_view
 scroll_range tree screen target = extent_of (range_by tree screen target)
 
 -- the scroll offset in force
-unfoldable pub scroll_offset : Tree → Screen → Scrolls → ScrollTarget → Extent
+unfoldable pub scroll_offset : Tree → Screen → Scrolls → Container → Extent
 unfolding scroll_range
 scroll_offset tree screen scrolls target = offset_within target (scroll_range tree screen target) scrolls
 
 -- the stored scroll positions of elements
 abbrev pub stored_in : Scrolls → ℕ → ℕ × ℕ
-stored_in scrolls n = pair_of (position_of (ScrolledElement n) scrolls)
+stored_in scrolls n = pair_of (position_of (InElement n) scrolls)
 
 -- a document's view at its stored scroll position
 abbrev pub scrolled_view : Tree → Screen → Scrolls → ℕ → View
 scrolled_view tree screen scrolls document =
-    record (view_of tree screen document) { scrolled = pair_of (position_of (ScrolledDocument document) scrolls) }
+    record (view_of tree screen document) { scrolled = pair_of (position_of (InDocument document) scrolls) }
 
 abbrev pub point_of : ℤ × ℤ → Point
 point_of pair = record { left = pair.0; top = pair.1 }

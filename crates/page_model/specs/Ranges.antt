@@ -2,7 +2,7 @@
 -- stored past what there is, so that what is made later begins unscrolled, with no size noted and no notify task queued.
 use Rattle.std.specs.Prelude.{ℕ, ◌<◌, ◌≤◌, List, length, IfSome, ⊤}
 use Rattle.std.specs.List.{AllByRecursion}
-use Rattle.page_model.specs.World.{Element, Document, Tree, Scrolls, ScrollTarget, ScrolledElement, ScrolledDocument, Thing, DocumentThing, ElementThing, ResizeObserverThing, IntersectionObserverThing, QueryListThing, Observation, ResizeObserver, Root, ImplicitRoot, DocumentRoot, ElementRoot, Registration, Entry, IntersectionObserver, EventTarget, ElementTarget, DocumentTarget, WindowTarget, QueryTarget, Listener, FrameCallback, Timer, Task, Notify, Posted, World}
+use Rattle.page_model.specs.World.{Element, Document, Tree, Scrolls, Container, InElement, InDocument, Thing, DocumentThing, ElementThing, ResizeObserverThing, IntersectionObserverThing, QueryListThing, Observation, ResizeObserver, Root, ImplicitRoot, DocumentRoot, ElementRoot, Registration, Entry, IntersectionObserver, EventTarget, ElementTarget, DocumentTarget, WindowTarget, QueryTarget, Listener, FrameCallback, Timer, Task, Notify, Posted, World}
 use Rattle.page_model.specs.Operands.{Present, NoEntry, ResizeEntry, IntersectionEntry}
 
 -- how much there is of each thing
@@ -30,9 +30,9 @@ pub record IsElementIn (counts : Counts) (it : Element) : Type 0 where
   pub document : it.document < counts.documents
   pub framed : IfSome it.framed (λ document. document < counts.documents)
 
-abbrev pub IsScrollIn : Counts → ScrollTarget → Type 0
-IsScrollIn counts (ScrolledElement n) = n < counts.elements
-IsScrollIn counts (ScrolledDocument document) = document < counts.documents
+abbrev pub IsScrollIn : Counts → Container → Type 0
+IsScrollIn counts (InElement n) = n < counts.elements
+IsScrollIn counts (InDocument document) = document < counts.documents
 
 pub record IsDocumentIn (counts : Counts) (it : Document) : Type 0 where
   pub frame : IfSome it.frame (λ n. n < counts.elements)

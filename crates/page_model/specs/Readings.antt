@@ -5,10 +5,9 @@ use Rattle.px_units.specs.declared.BoxKind.TheVariants.{Border}
 use Rattle.px_units.specs.declared.Point.{Point}
 use Rattle.px_units.specs.declared.Rect.{Rect}
 use Rattle.script_model.specs.TraceLines.{TraceLine, ReadLine}
-use Rattle.page_model.specs.World.{Extent, Screen, ScrolledElement, ScrolledDocument, Scrolls, Name, Tree}
+use Rattle.page_model.specs.World.{Extent, Screen, InElement, InDocument, Scrolls, Name, Tree, Container}
 use Rattle.page_model.specs.Lookups.{no_extent}
 use Rattle.page_model.specs.Names.{element_text, document_text}
-use Rattle.page_model.specs.Documents.{Container, InElement, InDocument}
 use Rattle.page_model.specs.PageBoxes.{viewport_of, size_of, place_of, is_scroller, scroll_offset}
 
 abbrev pub rect_of : Point → Extent → Rect
@@ -24,7 +23,7 @@ point_at extent = record { left = pos (extent.across); top = pos (extent.down) }
 
 -- the scroll offset in force of an element, none where it is no scroll container with a box, as a root element never is
 abbrev pub shown_scroll : Tree → Screen → Scrolls → ℕ → Bool → Extent
-shown_scroll tree screen scrolls n true = scroll_offset tree screen scrolls (ScrolledElement n)
+shown_scroll tree screen scrolls n true = scroll_offset tree screen scrolls (InElement n)
 shown_scroll tree screen scrolls n false = no_extent
 
 -- for an element its border box in its document's viewport, all zeros without a box; for a document its viewport; and the
@@ -39,4 +38,4 @@ reading_of names tree screen scrolls (InDocument document) =
     ReadLine
     (document_text names document)
     (rect_of (point_at no_extent) (viewport_of tree screen document))
-    (point_at (scroll_offset tree screen scrolls (ScrolledDocument document)))
+    (point_at (scroll_offset tree screen scrolls (InDocument document)))

@@ -4,7 +4,7 @@ use Rattle.std.specs.Prelude.{ℕ, Bool, Option}
 use Rattle.px_units.specs.declared.BoxKind.{BoxKind}
 use Rattle.px_units.specs.declared.Point.{Point}
 use Rattle.layout_model.specs.Boxes.{Box}
-use Rattle.page_model.specs.World.{Extent, Screen, Tree, ScrollTarget, Scrolls, World}
+use Rattle.page_model.specs.World.{Extent, Screen, Tree, Container, Scrolls, World}
 use Rattle.page_model.specs.PageBoxes as boxes
 
 pub record Shown : Type 0 where
@@ -39,8 +39,8 @@ viewport_of shown document = boxes.viewport_of (shown.tree) (shown.screen) docum
 abbrev pub place_of : Shown → ℕ → Point
 place_of shown n = boxes.place_of (shown.tree) (shown.screen) (shown.scrolls) n
 
-abbrev pub scroll_range : Shown → ScrollTarget → Extent
+abbrev pub scroll_range : Shown → Container → Extent
 scroll_range shown target = boxes.scroll_range (shown.tree) (shown.screen) target
 
-abbrev pub scroll_offset : Shown → ScrollTarget → Extent
+abbrev pub scroll_offset : Shown → Container → Extent
 scroll_offset shown target = boxes.scroll_offset (shown.tree) (shown.screen) (shown.scrolls) target

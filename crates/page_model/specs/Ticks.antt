@@ -4,10 +4,10 @@ use Rattle.std.specs.Prelude.{ℕ, Bool, cond, not, ◌==◌, ◌&&◌, nat_lt, 
 use Rattle.text_io.specs.declared.kinds.EventKind.TheVariants as events
 use Rattle.text_io.specs.declared.kinds.ThrowKind.TheVariants.{RangeError}
 use Rattle.script_model.specs.TraceLines.{TraceLine, TickLine, TimerLine, FrameLine, TaskLine, FiredResize, FiredScroll, FiredChange}
-use Rattle.page_model.specs.World.{World, Tree, Name, ScrollTarget, ScrolledElement, ScrolledDocument, EventTarget, ElementTarget, DocumentTarget, WindowTarget, QueryTarget, FrameCallback, Timer, Task, Notify, Posted}
+use Rattle.page_model.specs.World.{World, Tree, Container, InElement, InDocument, EventTarget, ElementTarget, DocumentTarget, WindowTarget, QueryTarget, FrameCallback, Timer, Task, Notify, Posted}
 use Rattle.page_model.specs.Lookups.{query_list_at}
 use Rattle.page_model.specs.Documents.{is_active, active_documents}
-use Rattle.page_model.specs.Names.{element_text, document_text, query_list_text}
+use Rattle.page_model.specs.Names.{container_text, document_text, query_list_text}
 use Rattle.page_model.specs.PageBoxes.{viewport_of}
 use Rattle.page_model.specs.Viewports.{differs_from, noted_size, with_noted}
 use Rattle.page_model.specs.Scrolls.{pending_of, without_pending}
@@ -53,20 +53,16 @@ resize_steps script document world =
     (record world { viewports = with_noted document size (world.viewports) })
     (differs_from size (noted_size document (world.viewports)))
 
-abbrev pub event_target_of : ScrollTarget → EventTarget
-event_target_of (ScrolledElement element) = ElementTarget element
-event_target_of (ScrolledDocument document) = DocumentTarget document
-
-abbrev pub scrolled_text : List Name → ScrollTarget → List ℕ
-scrolled_text names (ScrolledElement element) = element_text names element
-scrolled_text names (ScrolledDocument document) = document_text names document
+abbrev pub event_target_of : Container → EventTarget
+event_target_of (InElement element) = ElementTarget element
+event_target_of (InDocument document) = DocumentTarget document
 
 -- the scroll steps: the pending list is taken whole (CSSOM View, 13: run the scroll steps)
 unfoldable pub scroll_steps : Script → ℕ → World → Said World
 unfolding for_each fire
 scroll_steps script document world =
     for_each
-    (λ target. while_active document (λ now. fire script (FiredScroll (scrolled_text (now.names) target)) (event_target_of target) events.Scroll now))
+    (λ target. while_active document (λ now. fire script (FiredScroll (container_text (now.names) target)) (event_target_of target) events.Scroll now))
     (pending_of document (world.scrolls))
     (record world { scrolls = without_pending document (world.scrolls) })
 

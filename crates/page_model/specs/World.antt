@@ -47,6 +47,12 @@ pub record Tree : Type 0 where
   pub elements : List Element
   pub documents : List Document
 
+-- an element or a document: where an element stands, as a child or as the root element; what is scrolled, a scroll container or a viewport;
+-- and what holds boxes and clips them
+pub data Container : Type 0 where
+  InElement : (element : ℕ) → Container
+  InDocument : (document : ℕ) → Container
+
 -- viewports and scrolling ------------------------------------------------------------------------------------------------------
 
 -- what the top document is shown on: the size of its viewport, and how many device pixels a pixel is, in hundredths of a percent (CSSOM
@@ -60,15 +66,11 @@ pub record Viewports : Type 0 where
   pub screen : Screen
   pub noted : List (Option Extent)
 
-pub data ScrollTarget : Type 0 where
-  ScrolledElement : (element : ℕ) → ScrollTarget
-  ScrolledDocument : (document : ℕ) → ScrollTarget
-
 -- the stored scroll positions of elements and of documents, and each document's list of pending scroll events
 pub record Scrolls : Type 0 where
   pub elements : List Extent
   pub documents : List Extent
-  pub pending : List (List ScrollTarget)
+  pub pending : List (List Container)
 
 -- names ------------------------------------------------------------------------------------------------------------------------
 

@@ -9,7 +9,8 @@ use Rattle.page_model.specs.Operands.{element_meant}
 use Rattle.page_model.specs.PageBoxes.{size_of}
 use Rattle.page_model.specs.Steps.{Step, Did, ◌>>=◌}
 use Rattle.page_model.specs.World.{Name, World}
-use Rattle.page_state.specs.Things.{present_of, present_with}
+use Rattle.page_names.specs.Things.{present_of}
+use Rattle.page_state.specs.Things.{present_with}
 
 pub meant_same : (names : List Name) (subject : Option NodeId) (seen : Option Bool) (operand : Operand) → element_meant names (present_with subject seen) operand ≡ element_meant names (present_of subject) operand
 meant_same names subject seen (Named name) = refl

@@ -1,12 +1,12 @@
 -- What commands come to once their operands are found.
 use Rattle.std.proofs.Common.{◌≡◌, ℕ, List, [], ◌∷◌, Some, None, Result, Ok, Err, refl, ap, sym, subst, ◌<◌, Option, length, ℤ, ◌∙◌}
-use Rattle.script_model.specs.Syntax.{Operand, Append, Before, Remove, Read, Say}
-use Rattle.page_model.specs.World.{Tree, World}
-use Rattle.page_model.specs.Documents.{Container, removed}
-use Rattle.page_model.specs.Operands.{Handlers, Present, element_meant, container_meant}
+use Rattle.script_model.specs.Syntax.{Operand, Append, Before, Remove, Read, Say, TakeIntersections, ScrollTo, ScrollBy}
+use Rattle.page_model.specs.World.{Tree, World, Container, Entry}
+use Rattle.page_model.specs.Documents.{removed}
+use Rattle.page_model.specs.Operands.{Handlers, Present, element_meant, container_meant, intersection_observer_named}
 use Rattle.page_model.specs.Steps.{Step, Did, ◌>>=◌, becomes, writes, Effect as ModelEffect}
 use Rattle.page_model.specs.Readings.{reading_of}
-use Rattle.page_model.specs.Commands.{does, placing, with_tree}
+use Rattle.page_model.specs.Commands.{does, placing, with_tree, taking}
 use Rattle.page_tree.specs.declared.faults.PlaceFault.{PlaceFault}
 use Rattle.page_tree.specs.declared.faults.PlaceFault.TheVariants as place
 use Rattle.page_tree.specs.Faults.{refusal}
@@ -19,15 +19,11 @@ use Rattle.intersection_observer.specs.Watchers.{HeldWatchers}
 use Rattle.intersection_update.specs.Watching.{AreWritten}
 use Rattle.intersection_update.proofs.Watching.{queue_written}
 use Rattle.script_model.specs.TraceLines.{TakeLine}
-use Rattle.page_model.specs.World.{Entry, ScrollTarget}
 use Rattle.page_model.specs.EntryLines.{intersection_lines}
 use Rattle.page_model.specs.Names.{intersection_observer_text}
 use Rattle.page_model.specs.IntersectionObserving.{without_queue}
 use Rattle.page_model.specs.Lookups.{intersection_observer_at}
-use Rattle.page_model.specs.Operands.{intersection_observer_named}
-use Rattle.page_model.specs.Commands.{taking}
 use Rattle.page_model.specs.Scrolling.{scrolled_thing, scrolled_to, scrolled_by}
-use Rattle.script_model.specs.Syntax.{TakeIntersections, ScrollTo, ScrollBy}
 use Rattle.page_state.specs.Whole.{IsPage}
 use Rattle.trace_text.specs.declared.TraceLine.TheVariants as trace
 use Rattle.page_model.specs.Gathering.{gathering, sight_of}
@@ -152,15 +148,15 @@ module _ (page : Inside) (now : PageView) (view_is : view_of page ≡ now) (is :
 -- something is scrolled
 
 module _ (handlers : Handlers) (world : World) (present : Present) (of : Operand) (container : Container) (there : container_meant world.names present of ≡ Did container)
-    (target : Option ScrollTarget) (thing : scrolled_thing world.tree world.viewports.screen container ≡ target) (left top : ℤ) where
+    (target : Option Container) (thing : scrolled_thing world.tree world.viewports.screen container ≡ target) (left top : ℤ) where
   pub scrolls_to : does handlers world present (ScrollTo of left top) ≡ becomes (scrolled_to left top target world)
   unfolding does
   scrolls_to =
       (λ i. there i >>= λ (within : Container). becomes (scrolled_to left top (scrolled_thing (world.tree) (world.viewports.screen) within) world))
-      ∙ ap (λ (it : Option ScrollTarget). becomes (scrolled_to left top it world)) thing
+      ∙ ap (λ (it : Option Container). becomes (scrolled_to left top it world)) thing
 
   pub scrolls_by : does handlers world present (ScrollBy of left top) ≡ becomes (scrolled_by left top target world)
   unfolding does
   scrolls_by =
       (λ i. there i >>= λ (within : Container). becomes (scrolled_by left top (scrolled_thing (world.tree) (world.viewports.screen) within) world))
-      ∙ ap (λ (it : Option ScrollTarget). becomes (scrolled_by left top it world)) thing
+      ∙ ap (λ (it : Option Container). becomes (scrolled_by left top it world)) thing

@@ -11,7 +11,7 @@ use Rattle.script_model.specs.Margins.{Margins}
 use Rattle.page_model.specs.World.{Root, Registration, IntersectionObserver, IntersectionObservers}
 use Rattle.page_model.specs.Lookups.{entry_or, change_at, no_intersection_observer, intersection_observer_at}
 use Rattle.page_model.specs.IntersectionObserving.{is_registered, with_registration, without_registration}
-use Rattle.clip_chain.specs.declared.spot.Spot.{Spot}
+use Rattle.element_tree.specs.declared.container.Container.{Container}
 use Rattle.clip_chain.specs.Worlds.{element_spot, spot_of_root}
 use Rattle.intersection_observer.specs.declared.registration.RegistrationId.{RegistrationId}
 use Rattle.intersection_observer.specs.Answers.{Registers}
@@ -81,7 +81,7 @@ stands_apart : (it : IntersectionObservers) (serial other : ℕ) → standing_of
 stands_apart it serial other none stands same =
     false≢true (sym (ap (λ (o : Option Place). is_some o) none) ∙ ap (λ n. is_some (standing_of n it)) (sym same) ∙ stands)
 
-with_keeps : (before after : IntersectionObservers) (serial : ℕ) (root target : Spot) (it : HeldFindings) → standing_of serial before ≡ None → KeepsFindings before after it (with_findings serial root target it)
+with_keeps : (before after : IntersectionObservers) (serial : ℕ) (root target : Container) (it : HeldFindings) → standing_of serial before ≡ None → KeepsFindings before after it (with_findings serial root target it)
 with_keeps before after serial root target it none = record {
   sightings = λ spot. refl;
   count = refl;
@@ -133,11 +133,11 @@ module _ (watchers : IntersectionObservers) (margins : List Margins) (it : HeldF
   not_added = none_from (get it.kept serial) (registered.held.added serial ∙ ap (λ (place : Option Place). is_some place) none)
 
   -- what is kept of one that isn't made after all is taken back
-  pub taken_back : (root target : Spot) → without_findings serial (with_findings serial root target it) ≡ it
+  pub taken_back : (root target : Container) → without_findings serial (with_findings serial root target it) ≡ it
   taken_back root target =
       λ i. record it { clips = record (it.clips) { pairs = undone it.clips.pairs serial (new_pair root target) no_pair i }; kept = undone it.kept serial None not_added i }
 
-pub pair_put : (serial : ℕ) (root target : Spot) (it now : HeldFindings) → now ≡ with_findings serial root target it → IsSome (pair_at now.clips serial)
+pub pair_put : (serial : ℕ) (root target : Container) (it now : HeldFindings) → now ≡ with_findings serial root target it → IsSome (pair_at now.clips serial)
 pair_put serial root target it now is = subst (λ (h : HeldFindings). IsSome (pair_at h.clips serial)) (sym is) (put_own it.clips.pairs serial (new_pair root target))
 
 module _ (watchers : HeldWatchers) (margins : List Margins) (w n serial : ℕ) (root : Root) (it now : HeldFindings) (serials : HasSerials watchers.part) (registered : AreRegistered watchers.part margins it)

@@ -5,19 +5,18 @@ use Rattle.std.specs.Prelude.{slice_get}
 use Rattle.std.specs.List.{AllByRecursion}
 use Rattle.text_io.specs.declared.kinds.ThrowKind.{ThrowKind}
 use Rattle.text_io.specs.declared.kinds.Version.{Version}
-use Rattle.page_model.specs.World.{DocumentThing, ElementThing, ResizeObserverThing, IntersectionObserverThing, QueryListThing, Name}
+use Rattle.page_model.specs.World.{DocumentThing, ElementThing, ResizeObserverThing, IntersectionObserverThing, QueryListThing, Name, Root}
 use Rattle.page_model.specs.Lookups.{scroll_margins_at}
 use Rattle.page_model.specs.Ranges.{Counts}
 use Rattle.page_model.specs.IntersectionObserving.{with_intersection_observer}
 use Rattle.script_model.specs.Margins.{Margins}
-use Rattle.page_model.specs.World.{Root}
 use Rattle.page_model.specs.ResizeObserving.{with_resize_observer}
 use Rattle.resize_observer.specs.Observers.{HeldObservers}
 use Rattle.intersection_observer.specs.Watchers.{HeldWatchers}
 use Rattle.intersection_update.specs.Watching.{AreWatchers}
 use Rattle.intersection_update.proofs.Watching.{kept_grown, kept_made}
-use Rattle.page_tree.specs.declared.page.Container.{Container}
-use Rattle.page_tree.specs.declared.page.Container.TheVariants.{Element, Document}
+use Rattle.element_tree.specs.declared.container.Container.{Container}
+use Rattle.element_tree.specs.declared.container.Container.TheVariants.{Element, Document}
 use Rattle.page_layout.specs.Views.{LaidElements}
 use Rattle.page_tree.specs.Views.{PageElements}
 use Rattle.clip_chain.specs.Worlds.{element_spot, view_spot}
@@ -26,8 +25,8 @@ use Rattle.kept_findings.specs.Held.{HeldFindings, IsRoomier}
 use Rattle.kept_findings.specs.Rooms.{HaveRoom}
 use Rattle.kept_findings.proofs.Rooms.{room_roomier, room_element, room_document}
 use Rattle.kept_findings.proofs.Settled.{registered_made, registered_roomier}
-use Rattle.page_state.specs.Known.{KnownNames}
-use Rattle.page_state.specs.Things.{IsContainerBelow}
+use Rattle.page_names.specs.Known.{KnownNames}
+use Rattle.page_names.specs.Things.{IsContainerBelow}
 use Rattle.page_state.specs.Labels.{IsIn}
 use Rattle.page_state.specs.Whole.{AreKnown, AreElementNames, AreAsked, IsPage}
 use Rattle.page_state.specs.Worlds.{world_of, counts_in}

@@ -2,11 +2,11 @@
 use Rattle.std.proofs.Common.{◌≡◌, ◌≤◌, ◌+◌, ℕ, List, Option, Some, None, option_map, refl, subst, sym, ap, ◌∙◌, arith}
 use Rattle.std.specs.Prelude.{Bool, true, false, option_and_then, unwrap_or}
 use Rattle.script_model.specs.Syntax.{Operand}
-use Rattle.page_model.specs.World.{Screen, ScrollTarget, Tree, World}
+use Rattle.page_model.specs.World.{Screen, Container, Tree, World, InElement, InDocument}
 use Rattle.page_model.specs.Lookups.{element_at}
-use Rattle.page_model.specs.Documents.{Container, InElement, InDocument, is_root_element, document_of_container}
+use Rattle.page_model.specs.Documents.{is_root_element, document_of_container}
 use Rattle.page_model.specs.PageBoxes.{is_scroller}
-use Rattle.page_model.specs.Scrolling.{scrolled_element, scrolled_thing, scroll_document}
+use Rattle.page_model.specs.Scrolling.{scrolled_element, scrolled_thing}
 use Rattle.page_model.specs.Operands.{Present, container_meant}
 use Rattle.page_model.specs.Steps.{Step, Did}
 use Rattle.kept_layout.specs.declared.slots.Slot.{Slot}
@@ -58,11 +58,11 @@ computes_nothing world document slots steps = record {
 }
 
 thing_in : (tree : Tree) (screen : Screen) (container : Container)
-    → unwrap_or (option_map (scroll_document tree) (scrolled_thing tree screen container)) (document_of_container tree container) ≡ document_of_container tree container
+    → unwrap_or (option_map (document_of_container tree) (scrolled_thing tree screen container)) (document_of_container tree container) ≡ document_of_container tree container
 thing_in tree screen (InDocument document) = refl
 thing_in tree screen (InElement n) = by (is_root_element tree n) (is_scroller tree screen n)
   where
-    by : (root scroller : Bool) → unwrap_or (option_map (scroll_document tree) (scrolled_element n (element_at tree n).document root scroller)) (element_at tree n).document ≡ (element_at tree n).document
+    by : (root scroller : Bool) → unwrap_or (option_map (document_of_container tree) (scrolled_element n (element_at tree n).document root scroller)) (element_at tree n).document ≡ (element_at tree n).document
     by true scroller = refl
     by false true = refl
     by false false = refl
@@ -81,11 +81,11 @@ module _ (world : World) (old new : List Slot) (from to : ℕ) where
 
   -- what an operand's scrolling moves is in the operand's document
   pub computes_scrolled : (present : Present) (operand : Operand) (container : Container) → container_meant world.names present operand ≡ Did container
-      → (target : ScrollTarget) → scrolled_thing world.tree world.viewports.screen container ≡ Some target
-      → ComputesIn world (Some (scroll_document (world.tree) target)) old new from to → ComputesIn world (document_meant world present operand) old new from to
+      → (target : Container) → scrolled_thing world.tree world.viewports.screen container ≡ Some target
+      → ComputesIn world (Some (document_of_container (world.tree) target)) old new from to → ComputesIn world (document_meant world present operand) old new from to
   computes_scrolled present operand container is target thing computes =
       computes_meant present operand container is
       (subst (λ (document : ℕ). ComputesIn world (Some document) old new from to)
-      (ap (λ (it : Option ScrollTarget). unwrap_or (option_map (scroll_document (world.tree)) it) (document_of_container (world.tree) container)) (sym thing)
+      (ap (λ (it : Option Container). unwrap_or (option_map (document_of_container (world.tree)) it) (document_of_container (world.tree) container)) (sym thing)
       ∙ thing_in (world.tree) (world.viewports.screen) container)
       computes)

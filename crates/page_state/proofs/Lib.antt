@@ -1,7 +1,3 @@
-mod Steps
-mod Finding
-mod Found
-mod Named
 mod Parts
 mod Findings
 mod Exact
@@ -14,7 +10,6 @@ mod Marked
 mod Made
 mod Doing
 mod Noted
-mod Handlers
 mod QueryLists
 mod Asking
 mod Opening

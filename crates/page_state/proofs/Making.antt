@@ -15,7 +15,7 @@ use Rattle.page_model.specs.Operands.{Handlers, Present, new_name, document_name
 use Rattle.page_model.specs.Steps.{Step, Did, Threw, Met, ◌>>=◌, ◌>>◌, becomes, required, room, is_did}
 use Rattle.intersection_observer.specs.Watchers.{HeldWatchers}
 use Rattle.page_state.specs.Answers.{Kept}
-use Rattle.page_state.specs.Known.{KnownNames}
+use Rattle.page_names.specs.Known.{KnownNames}
 use Rattle.page_state.specs.Views.{PageView}
 use Rattle.page_state.specs.Watchers.{new_thresholds}
 use Rattle.page_state.specs.Worlds.{world_of, view_of}

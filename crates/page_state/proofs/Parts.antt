@@ -8,9 +8,9 @@ use Rattle.page_model.specs.Ranges.{Counts, IsThingIn}
 use Rattle.script_syntax.specs.Allowed.{IsSize}
 use Rattle.page_tree.specs.Items.{IsNatural}
 use Rattle.page_tree.specs.Views.{PageElements}
-use Rattle.page_state.specs.Things.{AreIn}
+use Rattle.page_names.specs.Things.{AreIn}
 use Rattle.page_state.specs.Whole.{AreKnown, AreElementNames}
-use Rattle.page_state.proofs.Found.{find_kept, find_last, find_some, element_absent}
+use Rattle.page_names.proofs.Found.{find_kept, find_last, find_some, element_absent}
 
 abbrev tests_for : Thing → Name → Bool
 tests_for thing named = is_same_thing named.thing thing

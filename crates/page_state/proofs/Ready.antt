@@ -32,7 +32,7 @@ use Rattle.intersection_update.specs.Updating.{found_through, first_updated, IsS
 use Rattle.page_state.specs.Answers.{Applied, Moved, lines_of}
 use Rattle.page_state.specs.Queries.{once_evaluated}
 use Rattle.page_state.specs.Rounds.{once_reported}
-use Rattle.page_state.specs.Things.{present_of, IsSubject}
+use Rattle.page_names.specs.Things.{present_of, IsSubject}
 use Rattle.page_state.specs.Views.{PageView}
 use Rattle.page_state.specs.declared.answers.Effect.{Effect}
 use Rattle.page_state.specs.declared.answers.PageFault.{PageFault}

@@ -1,6 +1,5 @@
 -- What the answers of a page's calls say of the steps of the definitions. A refused call leaves the world as it was.
 use Rattle.std.specs.Prelude.{◌≡◌, ◌<◌, true, List, [], ◌∷◌, length, Result, Ok, Err, IfOk}
-use Rattle.text_io.specs.declared.kinds.ThrowKind.{ThrowKind}
 use Rattle.script_model.specs.TraceLines.{TraceLine, TakeLine}
 use Rattle.page_model.specs.World.{World}
 use Rattle.page_model.specs.EntryLines.{intersection_lines}
@@ -21,11 +20,6 @@ lines_of world Nothing = []
 lines_of world (Line line) = seen_line line ∷ []
 lines_of world (Taken observer entries) =
     TakeLine (intersection_observer_text (world.names) observer.0) (length entries) ∷ intersection_lines (world.names) observer.0 entries
-
--- a value that is found, or the exception
-abbrev pub Finds : {A B : Type 0} → (A → B) → Result A ThrowKind → Step B → Type 0
-Finds seen (Ok value) step = step ≡ Did (seen value)
-Finds seen (Err kind) step = step ≡ Threw kind
 
 -- a value that is found, or why it isn't; want of memory comes last
 abbrev pub Gives : {A : Type 0} → Result A PageFault → Step A → Type 0

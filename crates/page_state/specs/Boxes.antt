@@ -1,9 +1,9 @@
 -- What becomes of the boxes that a page keeps. That boxes are kept, and when they are computed, is this project's own.
 use Rattle.std.specs.Prelude.{◌≡◌, ◌≤◌, ℕ, ◌+◌, Bool, ◌||◌, List, Option, Some, None, option_map, option_and_then, Result, OnOk, OnErr}
 use Rattle.script_model.specs.Syntax.{Operand, Test, Wider, Taller, Matches, Attached, Seen, Action, SetRatio, MakeBlock, MakeImage, MakeFrame, Append, Before, Remove, SetStyle, Grow, Load, MakeQueryList, ScrollTo, ScrollBy, Read}
-use Rattle.page_model.specs.World.{Tree, World}
+use Rattle.page_model.specs.World.{Tree, World, Container, InElement, InDocument}
 use Rattle.page_model.specs.Lookups.{query_list_at}
-use Rattle.page_model.specs.Documents.{Container, InElement, InDocument, nodes_of, document_of_container}
+use Rattle.page_model.specs.Documents.{nodes_of, document_of_container}
 use Rattle.page_model.specs.Operands.{Present, document_named, query_list_named, element_meant, container_meant}
 use Rattle.page_model.specs.Steps.{Step, Did, Threw, Met}
 use Rattle.kept_layout.specs.declared.slots.Slot.{Slot}

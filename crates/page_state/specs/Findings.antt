@@ -4,7 +4,7 @@ use Rattle.script_model.specs.Margins.{Margins}
 use Rattle.page_model.specs.World.{IntersectionObservers}
 use Rattle.page_model.specs.Intersections.{is_rooted_in}
 use Rattle.page_model.specs.Shown.{Shown, shown_of}
-use Rattle.clip_chain.specs.declared.spot.Spot.{Spot}
+use Rattle.element_tree.specs.declared.container.Container.{Container}
 use Rattle.clip_chain.specs.Worlds.{scene_of}
 use Rattle.intersection_observer.specs.Places.{IsStanding}
 use Rattle.intersection_observer.specs.Seen.{seen_finding}
@@ -25,9 +25,9 @@ use Rattle.page_state.specs.Views.{PageView}
 
 -- no spot is seen or touched, and of each registration that stands before and after, the pair with its clip and what was found stay
 pub record KeepsFindings (before after : IntersectionObservers) (old new : HeldFindings) : Type 0 where
-  pub sightings : (spot : Spot) → sighting_of new.seen spot ≡ sighting_of old.seen spot
+  pub sightings : (spot : Container) → sighting_of new.seen spot ≡ sighting_of old.seen spot
   pub count : new.clips.touches.count ≡ old.clips.touches.count
-  pub touches : (spot : Spot) → last_touch new.clips.touches spot ≡ last_touch old.clips.touches spot
+  pub touches : (spot : Container) → last_touch new.clips.touches spot ≡ last_touch old.clips.touches spot
   pub pairs : (serial : ℕ) → IsStanding serial before → IsStanding serial after → pair_at new.clips serial ≡ pair_at old.clips serial
   pub findings : (serial : ℕ) → IsStanding serial before → IsStanding serial after → kept_of new.kept serial ≡ kept_of old.kept serial
 
@@ -42,7 +42,7 @@ pub record IsFound (shown : Shown) (margins : List Margins) (it : IntersectionOb
 -- has one
 pub record Updates (shown : Shown) (margins : List Margins) (document : ℕ) (it : IntersectionObservers) (old new : HeldFindings) : Type 0 where
   pub touched : ChangesByLooks (scene_of shown) old.seen new.seen old.clips.touches new.clips.touches
-  pub left : (spot : Spot) → ((serial : ℕ) → IsLookedAt shown.tree document it serial → IsOff shown it spot serial) →
+  pub left : (spot : Container) → ((serial : ℕ) → IsLookedAt shown.tree document it serial → IsOff shown it spot serial) →
       IsLeft old.seen new.seen old.clips.touches new.clips.touches spot
   pub kept : (chained : HaveChains shown) (serial : ℕ) → is_stale_in shown margins chained it old.kept serial ≡ false → kept_of new.kept serial ≡ kept_of old.kept serial
   pub others : (serial : ℕ) → is_rooted_in shown.tree document (observer_of it serial).root ≡ false → kept_of new.kept serial ≡ kept_of old.kept serial

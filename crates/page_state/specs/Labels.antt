@@ -1,17 +1,17 @@
 -- The names of what there is in a page, and whose it is.
 use Rattle.std.specs.Prelude.{ℕ, ◌<◌, List, length, Option, None}
-use Rattle.page_model.specs.World.{World, EventTarget as ModelTarget, ElementTarget, DocumentTarget, WindowTarget, QueryTarget}
+use Rattle.page_model.specs.World.{World, EventTarget as ModelContainer, ElementTarget, DocumentTarget, WindowTarget, QueryTarget}
 use Rattle.page_model.specs.Lookups.{resize_observer_at, intersection_observer_at}
 use Rattle.page_model.specs.Names.{element_text, document_text, resize_observer_text, intersection_observer_text, query_list_text}
 use Rattle.page_model.specs.Callbacks.{document_of_target}
 use Rattle.event_tables.specs.Seen.{seen_target}
-use Rattle.page_tree.specs.declared.page.Container.{Container}
-use Rattle.page_tree.specs.declared.page.Container.TheVariants.{Element as Inside, Document as Top}
+use Rattle.element_tree.specs.declared.container.Container.{Container}
+use Rattle.element_tree.specs.declared.container.Container.TheVariants.{Element as Inside, Document as Top}
 use Rattle.page_state.specs.declared.labels.Label.{Label}
 use Rattle.page_state.specs.declared.labels.Label.TheVariants.{Target, Observer, Watcher}
 
 -- a window has its document's name
-abbrev pub target_text : World → ModelTarget → List ℕ
+abbrev pub target_text : World → ModelContainer → List ℕ
 target_text world (ElementTarget n) = element_text world.names n
 target_text world (DocumentTarget document) = document_text world.names document
 target_text world (WindowTarget document) = document_text world.names document
@@ -22,7 +22,7 @@ label_text world (Target target) = target_text world (seen_target target)
 label_text world (Observer observer) = resize_observer_text world.names observer.0
 label_text world (Watcher watcher) = intersection_observer_text world.names watcher.0
 
-abbrev pub IsTargetIn : World → ModelTarget → Type 0
+abbrev pub IsTargetIn : World → ModelContainer → Type 0
 IsTargetIn world (ElementTarget n) = n < length world.tree.elements
 IsTargetIn world (DocumentTarget document) = document < length world.tree.documents
 IsTargetIn world (WindowTarget document) = document < length world.tree.documents

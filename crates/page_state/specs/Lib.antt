@@ -1,4 +1,3 @@
-pub mod Known
 pub mod Things
 pub mod Queries
 pub mod Views

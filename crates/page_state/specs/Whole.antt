@@ -16,7 +16,7 @@ use Rattle.page_boxes.specs.Pages.{IsScreen}
 use Rattle.page_tree.specs.Items.{IsNatural}
 use Rattle.px_units.specs.declared.Size.{Size}
 use Rattle.page_tree.specs.Views.{PageElements}
-use Rattle.page_state.specs.Things.{AreIn}
+use Rattle.page_names.specs.Things.{AreIn}
 use Rattle.intersection_update.specs.Watching.{AreWatchers}
 use Rattle.kept_findings.specs.Registered.{AreRegistered}
 use Rattle.kept_findings.specs.Rooms.{HaveRoom}

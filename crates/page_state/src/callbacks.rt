@@ -13,12 +13,11 @@ ghost use Rattle.event_tables.specs.Seen.{seen_target, seen_task};
 ghost use Rattle.event_tables.specs.Tasks.{first_of, others_of};
 ghost use Rattle.event_tables.specs.Timers.{callback_of, copied_stands};
 ghost use Rattle.event_tables.specs.Timers as timers;
-ghost use Rattle.scrolling.specs.Seen.{seen_targets};
+ghost use Rattle.container_model.specs.Seen.{seen_containers};
 
 use crate::page::Page;
-use element_tree::DocumentId;
+use element_tree::{Container, DocumentId};
 use event_tables::{Batch, Dispatch, EventTarget, HandlerId, Task};
-use scrolling::ScrollTarget;
 use std::alloc::AllocError;
 use text_io::{EventKind, Name};
 
@@ -103,8 +102,8 @@ impl Page {
 
     /// Hands out the list of what scrolled in a document since the last call, in order, and leaves it empty (CSSOM View,
     /// 13: run the scroll steps). No memory.
-    pub fn take_scrolled(&mut self, document: DocumentId) -> Vec<ScrollTarget>
-        ensures value { seen_targets result.items ≡ pending_of document.0 self.old.world.scrolls }
+    pub fn take_scrolled(&mut self, document: DocumentId) -> Vec<Container>
+        ensures value { seen_containers result.items ≡ pending_of document.0 self.old.world.scrolls }
         ensures taken { self.new ≡ record self.old { world = record (self.old.world) { scrolls = without_pending document.0 (self.old.world.scrolls) } } }
         ensures ready { (handlers : ℕ) → IsReadyFor handlers self.old.world → IsReadyFor handlers self.new.world }
     {

@@ -14,7 +14,7 @@ ghost use Rattle.page_model.specs.Documents.{removed};
 ghost use Rattle.page_model.specs.Edits.{with_element, with_frame};
 ghost use Rattle.page_model.specs.World.{Tree};
 ghost use Rattle.page_model.specs.Operands.{Present, container_meant};
-ghost use Rattle.page_tree.specs.Steps.{seen_container};
+ghost use Rattle.container_model.specs.Seen.{seen_container};
 ghost use Rattle.script_syntax.specs.Allowed.{IsSize, IsPercent};
 ghost use Rattle.script_syntax.specs.Seen.{operand_of};
 ghost use Rattle.element_tree.specs.Links.{number};
@@ -24,16 +24,16 @@ ghost use Rattle.page_state.specs.Answers.{Keeps};
 ghost use Rattle.page_state.specs.Boxes.{LeavesDue, Marks, StaysDue, found, inside, is_moved, meant, parent};
 ghost use Rattle.page_state.specs.Faults.{misplaced};
 ghost use Rattle.page_state.specs.Labels.{IsIn};
-ghost use Rattle.page_state.specs.Things.{present_of, IsMade, IsSubject};
+ghost use Rattle.page_names.specs.Things.{present_of, IsSubject};
+ghost use Rattle.page_state.specs.Things.{IsMade};
 
 use crate::answers::{Effect, PageFault};
-use crate::names::Thing;
 use crate::page::Page;
 use block_layout::ItemKind;
-use clip_chain::Spot;
-use element_tree::{DocumentId, NodeId};
+use element_tree::{Container, DocumentId, NodeId};
 use page_laws::{boxes_do_not_read_the_ratio, what_is_made_has_no_box};
-use page_tree::{Container, PlaceFault};
+use page_names::Thing;
+use page_tree::PlaceFault;
 use px_units::{Percent, Px, Size};
 use script_syntax::Operand;
 use style_values::{Axis, Declaration};
@@ -111,7 +111,7 @@ impl Page {
         self.names.check_free(name)?;
         let document = self.document(document)?;
         let node = self.laid.reserve()?;
-        self.findings.add(Spot::Node(node))?;
+        self.findings.add(Container::Element(node))?;
         self.names.insert(name, Thing::Element(node))?;
         let _node = self.laid.make(document, name, kind)?;
         Ok(Effect::Nothing)
@@ -142,8 +142,8 @@ impl Page {
         }
         let node = self.laid.reserve()?;
         let framed = DocumentId(self.laid.page().document_count());
-        self.findings.add(Spot::Node(node))?;
-        self.findings.add(Spot::View(framed))?;
+        self.findings.add(Container::Element(node))?;
+        self.findings.add(Container::Document(framed))?;
         self.names.reserve(2)?;
         self.names.insert(name, Thing::Element(node))?;
         self.names.insert(inside, Thing::Document(framed))?;

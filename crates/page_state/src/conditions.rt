@@ -2,22 +2,22 @@
 
 ghost use Rattle.std.specs.Prelude.{◌≡◌, ℕ, length, Bool, nat_lt, unsigned_abs};
 ghost use Rattle.px_units.specs.declared.BoxKind.TheVariants.{Border};
+ghost use Rattle.page_model.specs.World.{InElement};
 ghost use Rattle.page_model.specs.Commands.{asked, holds, seen_now};
 ghost use Rattle.page_model.specs.PageBoxes.{size_of};
-ghost use Rattle.page_model.specs.Documents.{InElement};
 ghost use Rattle.page_laws.specs.Ready.{IsReadyFor};
 ghost use Rattle.page_boxes.specs.Around.{rests_on};
 ghost use Rattle.page_boxes.specs.Pages.{seen_size};
 ghost use Rattle.script_syntax.specs.Allowed.{TestAllowed};
 ghost use Rattle.script_syntax.specs.Seen.{test_of, condition_of};
-ghost use Rattle.page_state.specs.Answers.{Finds};
+ghost use Rattle.page_names.specs.Answers.{Finds};
 ghost use Rattle.page_state.specs.Boxes.{ComputesIn, answer_rests_on};
-ghost use Rattle.page_state.specs.Things.{present_with, IsSubject};
+ghost use Rattle.page_names.specs.Things.{IsSubject};
+ghost use Rattle.page_state.specs.Things.{present_with};
 
 use crate::page::Page;
-use element_tree::NodeId;
+use element_tree::{Container, NodeId};
 use page_boxes::size_of;
-use page_tree::Container;
 use px_units::{BoxKind, Px, Size};
 use script_syntax::{Condition, Test};
 use std::sync::ledger::Ledger;

@@ -12,13 +12,12 @@ ghost use Rattle.kept_findings.specs.Held.{no_findings, IsRoomier};
 ghost use Rattle.kept_findings.specs.Registered.{AreRegistered};
 
 use crate::by_document::ByDocument;
-use crate::names::{Names, Thing};
 use crate::page::most;
-use clip_chain::Spot;
-use element_tree::DocumentId;
+use element_tree::{Container, DocumentId};
 use event_tables::{FrameCallbacks, Listeners, Tasks, Timers};
 use intersection_observer::Watchers;
 use kept_findings::KeptFindings;
+use page_names::{Names, Thing};
 use px_units::Size;
 use resize_observer::Observers;
 use std::alloc::{AllocError, Global};
@@ -43,7 +42,7 @@ fn findings(alloc: Global) -> Result<KeptFindings, AllocError>
     ensures registered { (watchers : IntersectionObservers) (margins : List ScrollMargins) → ((serial : ℕ) → standing_of serial watchers ≡ None) → IfOk result (AreRegistered watchers margins) }
 {
     let mut findings = KeptFindings::new(alloc);
-    findings.add(Spot::View(DocumentId(0)))?;
+    findings.add(Container::Document(DocumentId(0)))?;
     Ok(findings)
 }
 

@@ -11,7 +11,6 @@ mod first;
 mod intersections;
 mod labels;
 mod lookups;
-mod names;
 mod page;
 mod queries;
 mod readings;

@@ -3,27 +3,23 @@
 ghost use Rattle.std.specs.Prelude.{◌<◌, length, option_map, IfOk};
 ghost use Rattle.element_tree.specs.Documents.{document_number};
 ghost use Rattle.element_tree.specs.Links.{number};
-ghost use Rattle.page_model.specs.Operands.{document_named, element_meant, container_meant, resize_observer_named, intersection_observer_named, query_list_named, root_meant, event_target_meant, handler_named, handler_given};
-ghost use Rattle.page_model.specs.Callbacks.{handler_names};
-ghost use Rattle.page_tree.specs.Steps.{seen_container};
+ghost use Rattle.page_model.specs.Operands.{document_named, element_meant, container_meant, resize_observer_named, intersection_observer_named, query_list_named, root_meant, event_target_meant};
+ghost use Rattle.container_model.specs.Seen.{seen_container};
 ghost use Rattle.event_tables.specs.Seen.{seen_target};
-ghost use Rattle.script_model.specs.Scripts.{handlers_in};
 ghost use Rattle.page_state.specs.Labels.{IsIn};
 ghost use Rattle.intersection_observer.specs.declared.root.WatcherId.{WatcherId};
 ghost use Rattle.intersection_observer.specs.Seen.{seen_root};
 ghost use Rattle.resize_observer.specs.declared.observation.ObserverId.{ObserverId};
-ghost use Rattle.event_tables.specs.declared.events.HandlerId.{HandlerId};
 ghost use Rattle.script_syntax.specs.Seen.{operand_of, aim_of};
-ghost use Rattle.page_state.specs.Answers.{Finds};
-ghost use Rattle.page_state.specs.Things.{present_of, IsSubject};
+ghost use Rattle.page_names.specs.Answers.{Finds};
+ghost use Rattle.page_names.specs.Things.{present_of, IsSubject};
 
 use crate::page::Page;
-use element_tree::{DocumentId, NodeId};
-use event_tables::{EventTarget, HandlerId};
+use element_tree::{Container, DocumentId, NodeId};
+use event_tables::EventTarget;
 use intersection_observer::{Root, WatcherId};
-use page_tree::Container;
 use resize_observer::ObserverId;
-use script_syntax::{Aim, Operand, Script};
+use script_syntax::{Aim, Operand};
 use text_io::{Name, ThrowKind};
 
 impl Page {
@@ -107,28 +103,5 @@ impl Page {
         ensures { Finds seen_target result (event_target_meant self.now.world.names (present_of subject) (aim_of aim)) }
     {
         self.names.event_target(aim, subject)
-    }
-}
-
-// The handler of a name.
-pub(crate) fn handler_named(script: &Script, name: Name) -> Result<HandlerId, ThrowKind>
-    ensures { Finds (λ (handler : HandlerId). handler.0) result (handler_named (handler_names (handlers_in script.now.items)) name) }
-{
-    match script.handler_named(name) {
-        Some(number) => Ok(HandlerId(number)),
-        None => Err(ThrowKind::ReferenceError),
-    }
-}
-
-// An observer's handler, where one is named.
-pub(crate) fn handler_given(script: &Script, name: Option<Name>) -> Result<Option<u32>, ThrowKind>
-    ensures { Finds (λ handler. handler) result (handler_given (handler_names (handlers_in script.now.items)) name) }
-{
-    let Some(name) = name else {
-        return Ok(None);
-    };
-    match handler_named(script, name) {
-        Ok(handler) => Ok(Some(handler.0)),
-        Err(kind) => Err(kind),
     }
 }

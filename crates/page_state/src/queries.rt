@@ -2,8 +2,8 @@
 
 ghost use Rattle.std.specs.Prelude.{◌≡◌, ◌<◌, ℕ, true, length, map, option_map, IfSome};
 ghost use Rattle.script_model.specs.Syntax.{MakeQueryList};
+ghost use Rattle.page_model.specs.World.{InDocument};
 ghost use Rattle.page_model.specs.Commands.{does, matches_now};
-ghost use Rattle.page_model.specs.Documents.{InDocument};
 ghost use Rattle.page_model.specs.Lookups.{query_list_at};
 ghost use Rattle.page_model.specs.Operands.{Present};
 ghost use Rattle.page_laws.specs.Ready.{IsReadyFor};
@@ -14,10 +14,10 @@ ghost use Rattle.page_state.specs.Boxes.{ComputesIn, viewport_rests_on};
 ghost use Rattle.page_state.specs.Queries.{seen_query_list, is_changed, changed_from, next_changed, once_evaluated};
 
 use crate::answers::{Effect, PageFault};
-use crate::names::Thing;
 use crate::page::{Page, most, viewport_now};
 use element_tree::DocumentId;
 use media_queries::Query;
+use page_names::Thing;
 use px_units::Size;
 use std::sync::ledger::Ledger;
 use step_count::Steps;

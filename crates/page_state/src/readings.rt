@@ -10,16 +10,15 @@ ghost use Rattle.trace_text.specs.Ranges.{HasReach};
 ghost use Rattle.script_syntax.specs.Seen.{operand_of};
 ghost use Rattle.page_state.specs.Answers.{Keeps};
 ghost use Rattle.page_state.specs.Boxes.{ComputesIn, document_meant};
-ghost use Rattle.page_tree.specs.Steps.{seen_container};
-ghost use Rattle.page_boxes.specs.Pages.{text_in};
-ghost use Rattle.page_state.specs.Things.{present_of, IsSubject};
+ghost use Rattle.container_model.specs.Seen.{seen_container};
+ghost use Rattle.page_model.specs.Names.{container_text};
+ghost use Rattle.page_names.specs.Things.{present_of, IsSubject};
 ghost use Rattle.page_state.specs.Labels.{IsIn};
 
 use crate::answers::{Effect, PageFault};
 use crate::page::{Page, shown_in};
-use element_tree::NodeId;
-use page_geometry::document_read;
-use page_tree::Container;
+use element_tree::{Container, NodeId};
+use page_geometry::document_of_container;
 use script_syntax::Operand;
 use std::sync::ledger::Ledger;
 use step_count::Steps;
@@ -53,7 +52,7 @@ impl Page {
         ensures reach { HasReach (seen_line result) }
     {
         let target = self.container_name(container);
-        let document = document_read(self.laid.page(), container);
+        let document = document_of_container(self.laid.page(), container);
         self.laid.refresh_in(self.screen, document, steps);
         let shown = shown_in(&self.laid, &self.scrolls, self.screen, document).read(container);
         TraceLine::Read {
@@ -65,7 +64,7 @@ impl Page {
 
     fn container_name(&self, container: Container) -> Name
         requires { IsIn self.now.world container }
-        ensures { result ≡ text_in self.now.world.names (seen_container container) }
+        ensures { result ≡ container_text self.now.world.names (seen_container container) }
     {
         match container {
             Container::Element(node) => self.laid.page().name_of(node),

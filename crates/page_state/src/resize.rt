@@ -8,13 +8,12 @@ ghost use Rattle.page_model.specs.Commands.{does};
 ghost use Rattle.page_model.specs.Operands.{Present};
 ghost use Rattle.script_syntax.specs.Seen.{operand_of};
 ghost use Rattle.page_state.specs.Answers.{Keeps, Kept};
-ghost use Rattle.page_state.specs.Things.{present_of, IsSubject};
+ghost use Rattle.page_names.specs.Things.{present_of, IsSubject};
 
 use crate::answers::{Effect, PageFault};
-use crate::lookups::handler_given;
-use crate::names::Thing;
 use crate::page::Page;
 use element_tree::NodeId;
+use page_names::{Thing, handler_given};
 use px_units::BoxKind;
 use resize_observer::ObserveFault;
 use script_syntax::{Operand, Script};

@@ -2,32 +2,31 @@
 
 ghost use Rattle.std.specs.Prelude.{◌≡◌, ◌<◌, ◌+ℤ◌, Some, length, option_map};
 ghost use Rattle.script_model.specs.Syntax.{ScrollTo, ScrollBy};
+ghost use Rattle.page_model.specs.World.{InElement};
 ghost use Rattle.page_model.specs.Commands.{does};
-ghost use Rattle.page_model.specs.Documents.{InElement, is_root_element};
+ghost use Rattle.page_model.specs.Documents.{is_root_element, document_of_container};
 ghost use Rattle.page_model.specs.PageBoxes.{scroll_range, scroll_offset};
-ghost use Rattle.page_model.specs.Scrolling.{scrolled_thing, scroll_document, scrolled_to};
+ghost use Rattle.page_model.specs.Scrolling.{scrolled_thing, scrolled_to};
 ghost use Rattle.page_model.specs.Steps.{becomes};
 ghost use Rattle.page_boxes.specs.Pages.{seen_size};
 ghost use Rattle.page_boxes.specs.Ranges.{IsOffset as IsInForce};
-ghost use Rattle.page_tree.specs.Steps.{seen_container};
+ghost use Rattle.container_model.specs.Seen.{seen_container};
 ghost use Rattle.scrolling.specs.Ranges.{IsRange};
-ghost use Rattle.scrolling.specs.Seen.{seen_target, point_of};
+ghost use Rattle.scrolling.specs.Seen.{point_of};
 ghost use Rattle.script_syntax.specs.Allowed.{IsOffset};
 ghost use Rattle.script_syntax.specs.Seen.{operand_of};
 ghost use Rattle.page_state.specs.Answers.{Keeps};
 ghost use Rattle.page_state.specs.Boxes.{ComputesIn, document_meant};
 ghost use Rattle.page_state.specs.Labels.{IsIn};
-ghost use Rattle.page_state.specs.Things.{present_of, IsSubject};
+ghost use Rattle.page_names.specs.Things.{present_of, IsSubject};
 
 use crate::answers::{Effect, PageFault};
 use crate::page::{Page, shown_in};
-use element_tree::NodeId;
+use element_tree::{Container, NodeId};
 use page_boxes::is_scroller;
-use page_geometry::document_scrolled;
-use page_tree::Container;
+use page_geometry::document_of_container;
 use px_units::{Point, Size};
 use script_syntax::Operand;
-use scrolling::ScrollTarget;
 use std::sync::ledger::Ledger;
 use step_count::Steps;
 
@@ -82,24 +81,24 @@ impl Page {
     }
 
     // What a scroll of an element or a document scrolls: a root element stands for its document's viewport.
-    fn scrolled_thing(&self, container: Container) -> Option<ScrollTarget>
+    fn scrolled_thing(&self, container: Container) -> Option<Container>
         requires { IsIn self.now.world container }
-        ensures { option_map seen_target result ≡ scrolled_thing self.now.world.tree self.now.world.viewports.screen (seen_container container) }
+        ensures { option_map seen_container result ≡ scrolled_thing self.now.world.tree self.now.world.viewports.screen (seen_container container) }
     {
         match container {
-            Container::Document(document) => Some(ScrollTarget::Document(document)),
+            Container::Document(document) => Some(Container::Document(document)),
             Container::Element(node) => self.scrolled_element(node),
         }
     }
 
-    fn scrolled_element(&self, node: NodeId) -> Option<ScrollTarget>
-        ensures { option_map seen_target result ≡ scrolled_thing self.now.world.tree self.now.world.viewports.screen (InElement node.0) }
+    fn scrolled_element(&self, node: NodeId) -> Option<Container>
+        ensures { option_map seen_container result ≡ scrolled_thing self.now.world.tree self.now.world.viewports.screen (InElement node.0) }
     {
         if self.is_root_element(node) {
-            return Some(ScrollTarget::Document(self.laid.page().document_of(node)));
+            return Some(Container::Document(self.laid.page().document_of(node)));
         }
         if is_scroller(self.laid.page(), node) {
-            Some(ScrollTarget::Node(node))
+            Some(Container::Element(node))
         } else {
             None
         }
@@ -117,15 +116,15 @@ impl Page {
     }
 
     // The scroll offset in force of a target and its range, of boxes as they are now.
-    fn reach<L: Ledger>(&mut self, target: ScrollTarget, steps: &mut Steps<L>) -> Reach
-        ensures offset { result.offset ≡ point_of (scroll_offset self.old.world.tree self.old.world.viewports.screen self.old.world.scrolls (seen_target target)) }
-        ensures range { seen_size result.range ≡ scroll_range self.old.world.tree self.old.world.viewports.screen (seen_target target) }
+    fn reach<L: Ledger>(&mut self, target: Container, steps: &mut Steps<L>) -> Reach
+        ensures offset { result.offset ≡ point_of (scroll_offset self.old.world.tree self.old.world.viewports.screen self.old.world.scrolls (seen_container target)) }
+        ensures range { seen_size result.range ≡ scroll_range self.old.world.tree self.old.world.viewports.screen (seen_container target) }
         ensures in_force { IsInForce result.offset }
         ensures bound { IsRange result.range }
         ensures same { self.new ≡ record self.old { kept = self.new.kept } }
-        ensures boxes { ComputesIn self.old.world (Some (scroll_document self.old.world.tree (seen_target target))) self.old.kept self.new.kept steps.old steps.new }
+        ensures boxes { ComputesIn self.old.world (Some (document_of_container self.old.world.tree (seen_container target))) self.old.kept self.new.kept steps.old steps.new }
     {
-        let document = document_scrolled(self.laid.page(), target);
+        let document = document_of_container(self.laid.page(), target);
         self.laid.refresh_in(self.screen, document, steps);
         let shown = shown_in(&self.laid, &self.scrolls, self.screen, document);
         Reach {
@@ -135,14 +134,14 @@ impl Page {
     }
 
     // Scrolls to a position, kept within the range of the target.
-    fn move_to(&mut self, target: ScrollTarget, to: Point, range: Size) -> Result<Effect, PageFault>
-        requires value { seen_size range ≡ scroll_range self.old.world.tree self.old.world.viewports.screen (seen_target target) }
+    fn move_to(&mut self, target: Container, to: Point, range: Size) -> Result<Effect, PageFault>
+        requires value { seen_size range ≡ scroll_range self.old.world.tree self.old.world.viewports.screen (seen_container target) }
         requires bound { IsRange range }
-        ensures done { Keeps self.old self.new result (λ handlers. becomes (scrolled_to to.left to.top (Some (seen_target target)) self.old.world)) }
+        ensures done { Keeps self.old self.new result (λ handlers. becomes (scrolled_to to.left to.top (Some (seen_container target)) self.old.world)) }
         ensures boxes { self.new.kept ≡ self.old.kept }
         ensures findings { self.new.found ≡ self.old.found }
     {
-        let document = document_scrolled(self.laid.page(), target);
+        let document = document_of_container(self.laid.page(), target);
         self.scrolls.scroll_to(document, target, to, range)?;
         Ok(Effect::Nothing)
     }

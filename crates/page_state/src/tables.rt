@@ -10,13 +10,13 @@ ghost use Rattle.script_syntax.specs.Allowed.{IsTime};
 ghost use Rattle.script_syntax.specs.Seen.{aim_of};
 ghost use Rattle.page_state.specs.Answers.{Keeps, Kept};
 ghost use Rattle.page_state.specs.Faults.{untabled};
-ghost use Rattle.page_state.specs.Things.{present_of, IsSubject};
+ghost use Rattle.page_names.specs.Things.{present_of, IsSubject};
 
 use crate::answers::{Effect, PageFault};
-use crate::lookups::handler_named;
 use crate::page::Page;
 use element_tree::NodeId;
 use event_tables::{TableFault, Task};
+use page_names::handler_named;
 use script_syntax::{Aim, Script};
 use text_io::{EventKind, LimitKind, Name, ThrowKind};
 

@@ -2,14 +2,14 @@
 
 ghost use Rattle.std.specs.Prelude.{◌≡◌, ◌<◌, ℕ, All, length, IfOk, OnOk, OnErr};
 ghost use Rattle.element_tree.specs.Documents.{document_numbers};
-ghost use Rattle.page_model.specs.Documents.{InDocument, active_documents, is_active};
+ghost use Rattle.page_model.specs.Documents.{active_documents, is_active};
 ghost use Rattle.page_model.specs.Intersections.{update_intersections, watchers};
 ghost use Rattle.page_model.specs.IntersectionObserving.{without_queue};
 ghost use Rattle.page_model.specs.Lookups.{intersection_observer_at};
 ghost use Rattle.page_model.specs.PageBoxes.{viewport_of};
 ghost use Rattle.page_model.specs.Shown.{shown_of};
 ghost use Rattle.page_model.specs.Tasks.{without_notifying};
-ghost use Rattle.page_model.specs.World.{Notify};
+ghost use Rattle.page_model.specs.World.{Notify, InDocument};
 ghost use Rattle.page_model.specs.Viewports.{noted_size, with_noted, differs_from};
 ghost use Rattle.page_laws.specs.Ready.{IsReadyFor, with_first};
 ghost use Rattle.page_boxes.specs.Around.{rests_on};

@@ -8,12 +8,12 @@ ghost use Rattle.page_boxes.specs.Kept.{AreKept};
 ghost use Rattle.page_boxes.specs.Pages.{seen_screen};
 
 use block_layout::ItemKind;
-use element_tree::{DocumentId, NodeId};
+use element_tree::{Container, DocumentId, NodeId};
 use intersection_observer::{Root, Watchers};
 use kept_layout::Kept;
 use page_boxes::{Screen, nothing_kept_fits, refresh};
 use page_documents::DocumentState;
-use page_tree::{Container, PageTree, PlaceFault};
+use page_tree::{PageTree, PlaceFault};
 use px_units::{Percent, Size};
 use std::alloc::Global;
 use std::marker::Brand;

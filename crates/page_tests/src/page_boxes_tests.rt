@@ -8,15 +8,15 @@ ghost use Rattle.page_boxes.specs.Pages.{seen_screen, IsScreen};
 
 use crate::common::{SCREEN, all_boxes, any_name, empty_slots, make_elements, put, remove, set};
 use block_layout::ItemKind;
-use element_tree::{DocumentId, NodeId};
+use element_tree::{Container, DocumentId, NodeId};
 use kept_layout::Kept;
 use page_boxes::{
     Screen, has_box, is_scroller, nothing_kept_fits, refresh_for, refresh_in, size_of,
 };
 use page_geometry::{Reading, Shown, ShownDocument};
-use page_tree::{Container, PageTree};
+use page_tree::PageTree;
 use px_units::{BoxKind, Percent, Point, Rect, Size};
-use scrolling::{ScrollTarget, Scrolls};
+use scrolling::Scrolls;
 use std::alloc::Global;
 use std::marker::Brand;
 use std::process::Abort;
@@ -411,10 +411,10 @@ const SCROLLED: [Look; 40] = [
 ];
 
 /// The scroll container.
-const INNER: ScrollTarget = ScrollTarget::Node(NodeId(5));
+const INNER: Container = Container::Element(NodeId(5));
 
 /// The nested viewport.
-const OUTER: ScrollTarget = ScrollTarget::Document(DocumentId(1));
+const OUTER: Container = Container::Document(DocumentId(1));
 
 fn place_and_style_nested(rt: &impl Abort, page: &mut PageTree) {
     for (container, node) in NESTED {
@@ -645,7 +645,7 @@ fn scroll_over(
     boxes: &Kept,
     scrolls: &mut Scrolls,
     screen: Screen,
-    target: ScrollTarget,
+    target: Container,
     down: u16,
 ) -> Result<(), Fail>
     requires screen { IsScreen screen }
@@ -668,7 +668,7 @@ fn scroll(
     page: &PageTree,
     scrolls: &mut Scrolls,
     is_narrow: bool,
-    target: ScrollTarget,
+    target: Container,
     down: u16,
 ) -> Result<(), Fail> {
     let screen = screen_of(is_narrow);

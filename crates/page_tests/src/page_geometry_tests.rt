@@ -11,17 +11,17 @@ ghost use Rattle.page_boxes.specs.Pages.{seen_screen, IsScreen};
 
 use crate::common::{SCREEN, all_boxes, make_elements, put, remove, set, watch};
 use candidate_index::{Index, Scene, Standing, spot_of_root};
-use clip_chain::{Spot, Through, reaches};
-use element_tree::{DocumentId, NodeId};
+use clip_chain::{Through, reaches};
+use element_tree::{Container, DocumentId, NodeId};
 use intersection_observer::{Finding, RegistrationId, Root, WatcherId, Watchers};
 use kept_clips::Clips;
 use kept_findings::Tells;
 use kept_layout::Kept;
 use page_boxes::Screen;
 use page_geometry::Shown;
-use page_tree::{Container, PageTree};
+use page_tree::PageTree;
 use px_units::{Point, Rect};
-use scrolling::{ScrollTarget, Scrolls};
+use scrolling::Scrolls;
 use std::alloc::Global;
 use std::marker::Brand;
 use std::process::Abort;
@@ -442,7 +442,7 @@ fn scroll_over(
     boxes: &Kept,
     scrolls: &mut Scrolls,
     screen: Screen,
-    target: ScrollTarget,
+    target: Container,
     down: i64,
 ) -> Result<(), Fail>
     requires screen { IsScreen screen }
@@ -458,7 +458,7 @@ fn scroll(
     alloc: Global,
     page: &PageTree,
     scrolls: &mut Scrolls,
-    target: ScrollTarget,
+    target: Container,
     down: i64,
 ) -> Result<(), Fail> {
     let boxes = all_boxes(rt, alloc, page, SCREEN)?;
@@ -474,7 +474,7 @@ fn see_chain<S: Scene>(rt: &impl Abort, scene: &S, root: Root, target: NodeId)
     ensures { IfChained (S.standings scene.now (seen_root root) target.0) (IsAbove (S.scene scene.now) (spot_of_root (seen_root root)) (element_spot target.0)) }
 {
     match scene.standing(root, target) {
-        Standing::Chained => { assert!(rt; reaches(scene, Spot::Node(target), spot_of_root(root))) }
+        Standing::Chained => { assert!(rt; reaches(scene, Container::Element(target), spot_of_root(root))) }
         Standing::Apart | Standing::NoBox => {}
     }
 }
@@ -495,10 +495,10 @@ fn clips_for<S: Scene>(
     see_chain(rt, scene, root, target);
     let mut clips = Clips::new(alloc);
     assert!(rt; clips.pair(registration.0).is_none());
-    clips.hold(registration.0, spot_of_root(root), Spot::Node(target))?;
+    clips.hold(registration.0, spot_of_root(root), Container::Element(target))?;
     let pair = clips.pair(registration.0).expect(rt, "a pair");
     assert!(rt; pair.root == spot_of_root(root));
-    assert!(rt; pair.of == Spot::Node(target));
+    assert!(rt; pair.of == Container::Element(target));
     Ok(clips)
 }
 
@@ -554,7 +554,11 @@ fn find_over(
         registration,
         scroll,
     )?;
-    let is_chained = reaches(shown, Spot::Node(NodeId(target)), Spot::View(DocumentId(0)));
+    let is_chained = reaches(
+        shown,
+        Container::Element(NodeId(target)),
+        Container::Document(DocumentId(0)),
+    );
     assert!(rt; is_chained || !finding.meets);
     Ok(finding)
 }
@@ -599,11 +603,11 @@ fn take_step(
 ) -> Result<(), Fail> {
     match step {
         Step::Scroll(node, down) => {
-            let target = ScrollTarget::Node(NodeId(node));
+            let target = Container::Element(NodeId(node));
             scroll(rt, alloc, page, scrolls, target, down)?;
         }
         Step::ScrollView(document, down) => {
-            let target = ScrollTarget::Document(DocumentId(document));
+            let target = Container::Document(DocumentId(document));
             scroll(rt, alloc, page, scrolls, target, down)?;
         }
         Step::Set(node, property, value) => set(rt, page, node, property, value),

@@ -7,10 +7,9 @@ ghost use Rattle.page_boxes.specs.Pages.{IsScreen};
 
 use crate::common::{any_name, declaration};
 use block_layout::ItemKind;
-use element_tree::{DocumentId, NodeId};
+use element_tree::{Container, DocumentId, NodeId};
 use page_boxes::{Screen, size_of};
 use page_layout::LaidTree;
-use page_tree::Container;
 use px_units::{BoxKind, Percent, Px, Size};
 use std::marker::Brand;
 use std::process::Abort;

@@ -4,9 +4,9 @@ ghost use Rattle.std.specs.Prelude.{◌<◌};
 
 use crate::common::{Edit, Life, any_name, apply, framed_page, live_all, make_elements};
 use block_layout::ItemKind;
-use element_tree::{DocumentId, NodeId};
+use element_tree::{Container, DocumentId, NodeId};
 use page_documents::DocumentState;
-use page_tree::{Container, MakeFault, PageTree};
+use page_tree::{MakeFault, PageTree};
 use px_units::{Length, Px, Size};
 use std::alloc::Global;
 use std::process::Abort;

@@ -4,10 +4,10 @@ ghost use Rattle.std.specs.Prelude.{◌≡◌, ◌<◌};
 
 use crate::common::{SCREEN, any_name, declaration};
 use block_layout::ItemKind;
-use element_tree::DocumentId;
+use element_tree::{Container, DocumentId};
 use page_boxes::size_of;
 use page_layout::LaidTree;
-use page_tree::{Container, PageTree};
+use page_tree::PageTree;
 use px_units::{BoxKind, Px};
 use std::alloc::Global;
 use std::marker::Brand;

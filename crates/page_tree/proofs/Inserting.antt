@@ -1,8 +1,8 @@
 -- What placing an element comes to: the elements and documents that are left, in the words of the definitions.
 use Rattle.std.proofs.Common.{◌≡◌, ℕ, map, Option, Some, None, Bool, false, is_some, ap, sym, ◌∙◌}
-use Rattle.page_model.specs.World.{Document, Tree}
+use Rattle.page_model.specs.World.{Document, Tree, InElement, InDocument}
 use Rattle.page_model.specs.Lookups.{element_at, document_at}
-use Rattle.page_model.specs.Documents.{InElement, InDocument, removed, adopted, shown}
+use Rattle.page_model.specs.Documents.{removed, adopted, shown}
 use Rattle.page_model.specs.Steps.{Did}
 use Rattle.page_model.specs.Commands.{placing, is_no_child}
 use Rattle.element_tree.specs.Forest.{Forest, IsForest}

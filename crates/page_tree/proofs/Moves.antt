@@ -9,9 +9,9 @@ use Rattle.layout_model.specs.Nodes.{is_flow}
 use Rattle.layout_model.specs.Boxes.{inner_children, kids_of}
 use Rattle.element_tree.specs.Forest.{has, names}
 use Rattle.kept_layout.specs.Changes.{ChangesOnly}
-use Rattle.page_model.specs.World.{Element, Tree}
+use Rattle.page_model.specs.World.{Element, Tree, Container, InElement, InDocument}
 use Rattle.page_model.specs.Lookups.{element_at, no_element, is_listed, without, change_element, change_at}
-use Rattle.page_model.specs.Documents.{Container, InElement, InDocument, nodes_of, is_number, is_root_element, container_by, container_of, unlinked, removed, placed_before, sibling_meant, linked, document_of_container, inclusive_descendants, adopted, shown, inserted}
+use Rattle.page_model.specs.Documents.{nodes_of, is_number, is_root_element, container_by, container_of, unlinked, removed, placed_before, sibling_meant, linked, document_of_container, inclusive_descendants, adopted, shown, inserted}
 use Rattle.page_model.specs.Steps.{Did}
 use Rattle.page_model.specs.Commands.{placing}
 use Rattle.page_documents.specs.Frames.{MakeTrees}

@@ -1,8 +1,8 @@
 -- Removals and insertions of the page are those of the tree.
 use Rattle.std.proofs.Common.{◌≡◌, ℕ, List, [], map, length, Option, Some, None, Bool, true, false, cond, refl, ap, sym, subst, ◌∙◌, slice_get}
-use Rattle.page_model.specs.World.{Element, Active, Dead, Document, Tree}
+use Rattle.page_model.specs.World.{Element, Active, Dead, Document, Tree, InElement, InDocument, Container}
 use Rattle.page_model.specs.Lookups.{element_at, without, change_at}
-use Rattle.page_model.specs.Documents.{InElement, InDocument, Container, container_by, container_of, is_root_element, unlinked, removed, placed_before, linked, sibling_meant, with_state, stands_in_active, documents_inside, is_active_state, is_fresh_state, adopted, shown, inserted}
+use Rattle.page_model.specs.Documents.{container_by, container_of, is_root_element, unlinked, removed, placed_before, linked, sibling_meant, with_state, stands_in_active, documents_inside, is_active_state, is_fresh_state, adopted, shown, inserted}
 use Rattle.element_tree.specs.Forest.{Knot, Forest, IsForest, IsOnce, parent_of, children_in}
 use Rattle.element_tree.specs.Edits.{with_parent, with_children, put_before, without as taken_out, removed_from, removed as taken_away, attached, inserted as put_in, change_at as changed_at}
 use Rattle.element_tree.proofs.Nodes.{children-reparented}

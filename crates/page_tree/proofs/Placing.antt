@@ -3,9 +3,9 @@ use Rattle.std.proofs.Common.{◌≡◌, ℕ, ◌+◌, List, Option, Some, None,
 use Rattle.std.proofs.lemmas.Bool.Decides.{nat_tests}
 use Rattle.text_io.specs.declared.kinds.ThrowKind.TheVariants.{HierarchyRequestError, NotFoundError}
 use Rattle.text_io.specs.declared.kinds.LimitKind.TheVariants as limits
-use Rattle.page_model.specs.World.{Document, Tree}
+use Rattle.page_model.specs.World.{Document, Tree, Container, InElement, InDocument}
 use Rattle.page_model.specs.Lookups.{element_at, document_at}
-use Rattle.page_model.specs.Documents.{Container, InElement, InDocument, container_by, is_root_element, nodes_of, is_inclusive_ancestor, element_depth, levels_of, sibling_meant, next_after, inserted}
+use Rattle.page_model.specs.Documents.{container_by, is_root_element, nodes_of, is_inclusive_ancestor, element_depth, levels_of, sibling_meant, next_after, inserted}
 use Rattle.page_model.specs.Steps.{Step, Did, Threw, Met, ◌>>◌, throw_if, met_unless}
 use Rattle.page_model.specs.Commands.{placing, would_hold_itself, is_container_of, is_no_child, is_full, container_depth}
 use Rattle.element_tree.specs.declared.fault.TreeFault.{TreeFault}

@@ -2,8 +2,8 @@
 use Rattle.std.specs.Prelude.{◌==◌, ◌||◌, ℕ, Bool, false, length}
 use Rattle.element_tree.specs.Forest.{names}
 use Rattle.kept_layout.specs.Changes.{ChangesOnly}
-use Rattle.page_model.specs.World.{Tree}
-use Rattle.page_model.specs.Documents.{Container, InElement, InDocument, nodes_of}
+use Rattle.page_model.specs.World.{Tree, Container, InElement, InDocument}
+use Rattle.page_model.specs.Documents.{nodes_of}
 
 -- whether an element is the parent of another one
 abbrev pub is_parent : Tree → ℕ → ℕ → Bool

@@ -10,4 +10,4 @@ mod standing;
 
 pub use element::Element;
 pub use faults::{MakeFault, PlaceFault};
-pub use page::{Container, PageTree};
+pub use page::PageTree;

@@ -9,9 +9,10 @@ ghost use Rattle.style_values.specs.Ranges.{IsAllowed, IsUnits};
 ghost use Rattle.style_values.specs.Seen.{seen_axis, seen_declaration};
 ghost use Rattle.element_tree.specs.Links.{number};
 ghost use Rattle.element_tree.specs.Edits.{inserted, with_nodes};
+ghost use Rattle.page_model.specs.World.{InElement, InDocument};
 ghost use Rattle.page_model.specs.Lookups.{element_at};
 ghost use Rattle.page_model.specs.Outcome.{opening_world};
-ghost use Rattle.page_model.specs.Documents.{InElement, InDocument, removed};
+ghost use Rattle.page_model.specs.Documents.{removed};
 ghost use Rattle.page_model.specs.Steps.{Did, Met, Threw};
 ghost use Rattle.page_model.specs.Edits.{with_element, with_frame, with_declaration, set_dimension, pixels_of, dimension_of, grown as grown_by};
 ghost use Rattle.page_model.specs.Commands.{placing, growing, loading};
@@ -20,13 +21,14 @@ ghost use Rattle.page_tree.specs.Items.{IsKind, IsNatural};
 ghost use Rattle.page_tree.specs.Faults.{refusal, element_room, frame_room, has_element_room, has_document_room, IsMakeFault, IsFrameFault};
 ghost use Rattle.page_tree.specs.Changes.{ChangesAtNext, ChangesAtParents, ChangesAtParent, ChangesAtElement};
 ghost use Rattle.page_tree.specs.Answers.{put_fault, mark_for, refusal_of, unmade_of, is_elsewhere};
-ghost use Rattle.page_tree.specs.Steps.{seen_container, IsContainerIn};
+ghost use Rattle.container_model.specs.Seen.{seen_container};
+ghost use Rattle.page_tree.specs.Steps.{IsContainerIn};
 
 use crate::element::Element;
 use crate::faults::{MakeFault, PlaceFault};
 use crate::standing::{is_no_root, leave};
 use block_layout::{ItemKind, Styled};
-use element_tree::{DocumentId, NodeId, Tree, TreeFault};
+use element_tree::{Container, DocumentId, NodeId, Tree, TreeFault};
 use page_documents::{Documents, MOST_DOCUMENTS, Owned};
 use px_units::{Length, Px, Size};
 use std::alloc::{AllocError, Global};
@@ -39,15 +41,6 @@ const MOST_DEPTH: u32 = 256;
 
 /// The greatest length of a style, in units of 1/64 pixel: 1,000,000 pixels.
 const MOST_UNITS: i64 = 64_000_000;
-
-/// Where an element is put: last or before a sibling among the children of an element, or as the root element of a document.
-#[derive(Clone, Copy, Debug, PartialEq, Eq)]
-pub enum Container {
-    /// This element.
-    Element(NodeId),
-    /// This document; `top` is number 0.
-    Document(DocumentId),
-}
 
 /// The elements and documents of a page, within the limits of a version of the script language. A contract sees them as the lists of
 /// a world (`specs/Views.antt`). Both are numbered from 0 in order of making, and stay for good; `top` is document 0.

@@ -16,14 +16,14 @@ ghost use Rattle.block_layout.specs.Seen.{seen_kind};
 ghost use Rattle.block_layout.specs.Trees.{layout_tree as tree_in};
 ghost use Rattle.page_tree.specs.Items.{IsKind, style_in, kind_in};
 ghost use Rattle.page_tree.specs.Views.{seen_with};
-ghost use Rattle.page_tree.specs.Steps.{seen_container};
+ghost use Rattle.container_model.specs.Seen.{seen_container};
 ghost use Rattle.page_tree.specs.Trees.{AreTrees};
 
 use crate::element::Element;
-use crate::page::{Container, PageTree};
+use crate::page::PageTree;
 use crate::standing::{container_of, document_of, root_of};
 use block_layout::{ItemKind, Styled};
-use element_tree::{DocumentId, NodeId, Tree};
+use element_tree::{Container, DocumentId, NodeId, Tree};
 use page_documents::{DocumentState, Owned};
 use smallvec::SmallVec;
 use std::alloc::AllocError;

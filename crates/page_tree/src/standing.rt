@@ -2,17 +2,18 @@
 
 ghost use Rattle.std.specs.Prelude.{◌≡◌, ◌<◌, length, option_map, IfSome};
 ghost use Rattle.element_tree.specs.Links.{number};
-ghost use Rattle.page_model.specs.Lookups.{element_at, document_at};
-ghost use Rattle.page_model.specs.Documents.{InDocument, is_number, is_root_element, container_of, is_same_container, stands_in_active, removed};
+ghost use Rattle.page_model.specs.World.{InDocument};
+ghost use Rattle.page_model.specs.Lookups.{element_at, document_at, is_same_container};
+ghost use Rattle.page_model.specs.Documents.{is_number, is_root_element, container_of, stands_in_active, removed};
 ghost use Rattle.page_model.specs.Commands.{is_container_of, is_no_child};
 ghost use Rattle.page_documents.specs.Seen.{seen_tree};
 ghost use Rattle.page_documents.specs.Held.{ending};
 ghost use Rattle.page_tree.specs.Items.{carried_in};
-ghost use Rattle.page_tree.specs.Steps.{seen_container, IsBelow};
+ghost use Rattle.container_model.specs.Seen.{seen_container};
+ghost use Rattle.page_tree.specs.Steps.{IsBelow};
 
 use crate::element::Element;
-use crate::page::Container;
-use element_tree::{DocumentId, NodeId, Tree};
+use element_tree::{Container, DocumentId, NodeId, Tree};
 use page_documents::{Documents, Owned};
 
 /// The document `top`, which elements that aren't there count as elements of.

@@ -8,6 +8,8 @@ mod handlers_tests;
 #[cfg(test)]
 mod loop_lint_tests;
 #[cfg(test)]
+mod page_names_tests;
+#[cfg(test)]
 mod page_sights;
 #[cfg(test)]
 mod replay_run_forms;

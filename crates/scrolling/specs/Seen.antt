@@ -1,13 +1,11 @@
 -- What the types of this crate stand for.
-use Rattle.std.specs.Prelude.{Bool, true, false, pos, List, map, unsigned_abs}
+use Rattle.std.specs.Prelude.{Bool, true, false, pos, unsigned_abs}
 use Rattle.px_units.specs.declared.Point.{Point}
 use Rattle.px_units.specs.declared.Size.{Size}
-use Rattle.page_model.specs.World.{Extent, ScrollTarget as ModelTarget, ScrolledElement, ScrolledDocument}
+use Rattle.page_model.specs.World.{Extent}
 use Rattle.page_model.specs.Scrolls.{within_range}
-use Rattle.scrolling.specs.declared.target.ScrollTarget.{ScrollTarget}
-use Rattle.scrolling.specs.declared.target.ScrollTarget.TheVariants.{Node, Document}
-use Rattle.scrolling.specs.declared.target.Outcome.{Outcome}
-use Rattle.scrolling.specs.declared.target.Outcome.TheVariants.{Moved, Same}
+use Rattle.scrolling.specs.declared.outcome.Outcome.{Outcome}
+use Rattle.scrolling.specs.declared.outcome.Outcome.TheVariants.{Moved, Same}
 
 -- a size is never negative, so it is seen through absolute values
 abbrev pub seen_size : Size → Extent
@@ -15,13 +13,6 @@ seen_size size = record { across = unsigned_abs size.width; down = unsigned_abs 
 
 abbrev pub point_of : Extent → Point
 point_of extent = record { left = pos extent.across; top = pos extent.down }
-
-abbrev pub seen_target : ScrollTarget → ModelTarget
-seen_target (Node element) = ScrolledElement element.0
-seen_target (Document document) = ScrolledDocument document.0
-
-abbrev pub seen_targets : List ScrollTarget → List ModelTarget
-seen_targets targets = map seen_target targets
 
 -- a wanted position kept within a range
 abbrev pub kept_in : Size → Point → Extent

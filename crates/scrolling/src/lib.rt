@@ -3,11 +3,11 @@
 #![tactic(auto)]
 
 mod laws;
+mod outcome;
 mod pending;
 mod positions;
 mod scrolls;
-mod target;
 
 pub use laws::a_scroll_comes_to_its_position;
+pub use outcome::Outcome;
 pub use scrolls::Scrolls;
-pub use target::{Outcome, ScrollTarget};

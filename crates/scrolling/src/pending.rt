@@ -2,28 +2,26 @@
 
 ghost use Rattle.std.specs.Prelude.{◌≡◌, ◌≤◌, true, [], ◌++◌, ◌-◌, replicate, vec_len, vec_capacity, OnOk, OnErr, IsOk};
 ghost use Rattle.std.specs.List.{list_any};
-ghost use Rattle.page_model.specs.Lookups.{change_at, entry_or, put_at};
-ghost use Rattle.page_model.specs.Scrolls.{is_same_scroll, with_listed};
+ghost use Rattle.page_model.specs.Lookups.{change_at, entry_or, put_at, is_same_container};
+ghost use Rattle.page_model.specs.Scrolls.{with_listed};
 ghost use Rattle.scrolling.specs.Pending.{seen_lists};
-ghost use Rattle.scrolling.specs.Seen.{seen_target, seen_targets};
+ghost use Rattle.container_model.specs.Seen.{seen_container, seen_containers};
 
-use crate::ScrollTarget;
-use crate::target::is_same;
-use element_tree::DocumentId;
+use element_tree::{Container, DocumentId};
 use std::alloc::AllocError;
 use std::mem::replace;
 
-fn is_listed(list: &[ScrollTarget], target: ScrollTarget) -> bool
-    ensures { result ≡ list_any (λ each. is_same_scroll (seen_target target) (seen_target each)) list.now }
+fn is_listed(list: &[Container], target: Container) -> bool
+    ensures { result ≡ list_any (λ each. is_same_container (seen_container target) (seen_container each)) list.now }
 {
-    list.iter().any(|each| is_same(target, *each))
+    list.contains(&target)
 }
 
 // Puts a target last on a list, unless it is there, where that takes no memory.
-fn list_target(list: &mut Vec<ScrollTarget>, target: ScrollTarget) -> Result<(), AllocError>
-    ensures listed { OnOk result (seen_targets list.new.items ≡ with_listed (seen_target target) (seen_targets list.old.items)) }
+fn list_target(list: &mut Vec<Container>, target: Container) -> Result<(), AllocError>
+    ensures listed { OnOk result (seen_containers list.new.items ≡ with_listed (seen_container target) (seen_containers list.old.items)) }
     ensures same { OnErr result (list.new.items ≡ list.old.items) }
-    ensures there { list_any (is_same_scroll (seen_target target)) (seen_targets list.old.items) ≡ true → IsOk result }
+    ensures there { list_any (is_same_container (seen_container target)) (seen_containers list.old.items) ≡ true → IsOk result }
 {
     if !is_listed(list.as_slice(), target) {
         list.push(target)?;
@@ -32,7 +30,7 @@ fn list_target(list: &mut Vec<ScrollTarget>, target: ScrollTarget) -> Result<(),
 }
 
 // Fills the lists up to a number with empty ones, for which there is room.
-fn fill(lists: &mut Vec<Vec<ScrollTarget>>, count: usize)
+fn fill(lists: &mut Vec<Vec<Container>>, count: usize)
     requires { count ≤ vec_capacity lists.old }
     ensures lists { seen_lists lists.new.items ≡ seen_lists lists.old.items ++ replicate (count - vec_len lists.old) [] }
     ensures capacity { vec_capacity lists.new ≡ vec_capacity lists.old }
@@ -44,13 +42,13 @@ fn fill(lists: &mut Vec<Vec<ScrollTarget>>, count: usize)
 
 // Puts a target last on the list of a document, unless it is there, where that takes no memory.
 pub(crate) fn add_pending(
-    lists: &mut Vec<Vec<ScrollTarget>>,
+    lists: &mut Vec<Vec<Container>>,
     document: DocumentId,
-    target: ScrollTarget,
+    target: Container,
 ) -> Result<(), AllocError>
-    ensures added { OnOk result (seen_lists lists.new.items ≡ put_at [] document.0 (with_listed (seen_target target) (entry_or [] (seen_lists lists.old.items) document.0)) (seen_lists lists.old.items)) }
+    ensures added { OnOk result (seen_lists lists.new.items ≡ put_at [] document.0 (with_listed (seen_container target) (entry_or [] (seen_lists lists.old.items) document.0)) (seen_lists lists.old.items)) }
     ensures same { OnErr result (seen_lists lists.new.items ≡ seen_lists lists.old.items) }
-    ensures there { list_any (is_same_scroll (seen_target target)) (entry_or [] (seen_lists lists.old.items) document.0) ≡ true → IsOk result }
+    ensures there { list_any (is_same_container (seen_container target)) (entry_or [] (seen_lists lists.old.items) document.0) ≡ true → IsOk result }
 {
     let place = document.0 as usize;
     if place < lists.len() {
@@ -65,11 +63,8 @@ pub(crate) fn add_pending(
 }
 
 // Hands out the list of a document, and leaves it empty.
-pub(crate) fn take_list(
-    lists: &mut Vec<Vec<ScrollTarget>>,
-    document: DocumentId,
-) -> Vec<ScrollTarget>
-    ensures value { seen_targets result.items ≡ entry_or [] (seen_lists lists.old.items) document.0 }
+pub(crate) fn take_list(lists: &mut Vec<Vec<Container>>, document: DocumentId) -> Vec<Container>
+    ensures value { seen_containers result.items ≡ entry_or [] (seen_lists lists.old.items) document.0 }
     ensures taken { seen_lists lists.new.items ≡ change_at (λ list. []) document.0 (seen_lists lists.old.items) }
 {
     let place = document.0 as usize;

@@ -3,18 +3,19 @@
 ghost use Rattle.std.specs.Prelude.{◌≡◌, ◌<◌, ◌≤◌, true, [], map, min, unsigned_abs, vec_len, IfOk, OnOk, OnErr, IsOk};
 ghost use Rattle.std.specs.List.{list_any};
 ghost use Rattle.page_model.specs.Edits.{kept_within};
-ghost use Rattle.page_model.specs.Lookups.{no_extent, entry_or, put_at};
-ghost use Rattle.page_model.specs.Scrolls.{is_same_scroll, with_listed, position_of, pending_of, offset_of, with_position, with_pending, without_pending, stays, scrolled};
+ghost use Rattle.page_model.specs.Lookups.{no_extent, entry_or, put_at, is_same_container};
+ghost use Rattle.page_model.specs.Scrolls.{with_listed, position_of, pending_of, offset_of, with_position, with_pending, without_pending, stays, scrolled};
 ghost use Rattle.scrolling.specs.Pending.{seen_lists};
 ghost use Rattle.scrolling.specs.Positions.{seen_position};
 ghost use Rattle.scrolling.specs.Ranges.{IsLength, IsRange};
 ghost use Rattle.scrolling.specs.Held.{unscrolled, is_pending, HasNoDoubles};
-ghost use Rattle.scrolling.specs.Seen.{seen_size, seen_target, seen_targets, point_of, kept_in, outcome_of};
+ghost use Rattle.container_model.specs.Seen.{seen_container, seen_containers};
+ghost use Rattle.scrolling.specs.Seen.{seen_size, point_of, kept_in, outcome_of};
 
+use crate::Outcome;
 use crate::pending::{add_pending, take_list};
 use crate::positions::{Position, position_at, reserve_place, store};
-use crate::{Outcome, ScrollTarget};
-use element_tree::DocumentId;
+use element_tree::{Container, DocumentId};
 use px_units::{Point, Size};
 use std::alloc::{AllocError, Global};
 use std::marker::Model;
@@ -28,7 +29,7 @@ use std::marker::Model;
 pub struct Scrolls {
     elements: Vec<Position>,
     documents: Vec<Position>,
-    pending: Vec<Vec<ScrollTarget>>,
+    pending: Vec<Vec<Container>>,
 }
 
 impl Model for Scrolls {
@@ -68,17 +69,17 @@ fn kept(wanted: i64, most: i64) -> u64
 // Stores the position of a number, and puts a target on the pending list of a document.
 fn move_in(
     held: &mut Vec<Position>,
-    pending: &mut Vec<Vec<ScrollTarget>>,
+    pending: &mut Vec<Vec<Container>>,
     number: u32,
     document: DocumentId,
-    target: ScrollTarget,
+    target: Container,
     position: Position,
 ) -> Result<(), AllocError>
     ensures held { OnOk result (map seen_position held.new.items ≡ put_at no_extent number (seen_position position) (map seen_position held.old.items)) }
-    ensures pending { OnOk result (seen_lists pending.new.items ≡ put_at [] document.0 (with_listed (seen_target target) (entry_or [] (seen_lists pending.old.items) document.0)) (seen_lists pending.old.items)) }
+    ensures pending { OnOk result (seen_lists pending.new.items ≡ put_at [] document.0 (with_listed (seen_container target) (entry_or [] (seen_lists pending.old.items) document.0)) (seen_lists pending.old.items)) }
     ensures same_held { OnErr result (map seen_position held.new.items ≡ map seen_position held.old.items) }
     ensures same_pending { OnErr result (seen_lists pending.new.items ≡ seen_lists pending.old.items) }
-    ensures there { number < vec_len held.old → list_any (is_same_scroll (seen_target target)) (entry_or [] (seen_lists pending.old.items) document.0) ≡ true → IsOk result }
+    ensures there { number < vec_len held.old → list_any (is_same_container (seen_container target)) (entry_or [] (seen_lists pending.old.items) document.0) ≡ true → IsOk result }
 {
     reserve_place(held, number)?;
     add_pending(pending, document, target)?;
@@ -98,20 +99,18 @@ impl Scrolls {
         }
     }
 
-    fn position(&self, target: ScrollTarget) -> Position
-        ensures { seen_position result ≡ position_of (seen_target target) self.now }
+    fn position(&self, target: Container) -> Position
+        ensures { seen_position result ≡ position_of (seen_container target) self.now }
     {
         match target {
-            ScrollTarget::Node(node) => position_at(self.elements.as_slice(), node.0),
-            ScrollTarget::Document(document) => {
-                position_at(self.documents.as_slice(), document.0)
-            }
+            Container::Element(node) => position_at(self.elements.as_slice(), node.0),
+            Container::Document(document) => position_at(self.documents.as_slice(), document.0),
         }
     }
 
-    fn in_force(&self, target: ScrollTarget, range: Size) -> Position
+    fn in_force(&self, target: Container, range: Size) -> Position
         requires { IsRange range }
-        ensures value { seen_position result ≡ offset_of (seen_target target) (seen_size range) self.now }
+        ensures value { seen_position result ≡ offset_of (seen_container target) (seen_size range) self.now }
         ensures across { result.across ≤ 2147483647 }
         ensures down { result.down ≤ 2147483647 }
     {
@@ -124,9 +123,9 @@ impl Scrolls {
 
     /// The scroll offset in force: on each axis the lesser of the stored position and the range. Where nothing is stored
     /// it is 0.
-    pub fn offset_in_force(&self, target: ScrollTarget, range: Size) -> Point
+    pub fn offset_in_force(&self, target: Container, range: Size) -> Point
         requires { IsRange range }
-        ensures value { result ≡ point_of (offset_of (seen_target target) (seen_size range) self.now) }
+        ensures value { result ≡ point_of (offset_of (seen_container target) (seen_size range) self.now) }
         ensures bound { IsLength result.left × IsLength result.top }
     {
         let offset = self.in_force(target, range);
@@ -140,15 +139,15 @@ impl Scrolls {
     fn move_to(
         &mut self,
         document: DocumentId,
-        target: ScrollTarget,
+        target: Container,
         position: Position,
     ) -> Result<(), AllocError>
-        ensures moved { OnOk result (self.new ≡ with_pending document.0 (seen_target target) (with_position (seen_target target) (seen_position position) self.old)) }
+        ensures moved { OnOk result (self.new ≡ with_pending document.0 (seen_container target) (with_position (seen_container target) (seen_position position) self.old)) }
         ensures same { OnErr result (self.new ≡ self.old) }
-        ensures pending { is_pending document.0 (seen_target target) self.old ≡ true → IsOk result }
+        ensures pending { is_pending document.0 (seen_container target) self.old ≡ true → IsOk result }
     {
         match target {
-            ScrollTarget::Node(node) => move_in(
+            Container::Element(node) => move_in(
                 &mut self.elements,
                 &mut self.pending,
                 node.0,
@@ -156,7 +155,7 @@ impl Scrolls {
                 target,
                 position,
             ),
-            ScrollTarget::Document(scrolled) => move_in(
+            Container::Document(scrolled) => move_in(
                 &mut self.documents,
                 &mut self.pending,
                 scrolled.0,
@@ -175,16 +174,16 @@ impl Scrolls {
     pub fn scroll_to(
         &mut self,
         document: DocumentId,
-        target: ScrollTarget,
+        target: Container,
         wanted: Point,
         range: Size,
     ) -> Result<Outcome, AllocError>
         requires { IsRange range }
-        ensures scrolled { OnOk result (self.new ≡ scrolled document.0 (seen_target target) (kept_in range wanted) (seen_size range) self.old) }
-        ensures outcome { IfOk result (λ outcome. outcome ≡ outcome_of (stays (seen_target target) (kept_in range wanted) (seen_size range) self.old)) }
+        ensures scrolled { OnOk result (self.new ≡ scrolled document.0 (seen_container target) (kept_in range wanted) (seen_size range) self.old) }
+        ensures outcome { IfOk result (λ outcome. outcome ≡ outcome_of (stays (seen_container target) (kept_in range wanted) (seen_size range) self.old)) }
         ensures same { OnErr result (self.new ≡ self.old) }
-        ensures still { stays (seen_target target) (kept_in range wanted) (seen_size range) self.old ≡ true → IsOk result }
-        ensures pending { is_pending document.0 (seen_target target) self.old ≡ true → IsOk result }
+        ensures still { stays (seen_container target) (kept_in range wanted) (seen_size range) self.old ≡ true → IsOk result }
+        ensures pending { is_pending document.0 (seen_container target) self.old ≡ true → IsOk result }
     {
         let position = Position {
             across: kept(wanted.left, range.width),
@@ -199,10 +198,10 @@ impl Scrolls {
     }
 
     /// Hands out a document's pending list, and leaves it empty (CSSOM View, 13: run the scroll steps). It takes no memory.
-    pub fn take_pending(&mut self, document: DocumentId) -> Vec<ScrollTarget>
-        ensures value { seen_targets result.items ≡ pending_of document.0 self.old }
+    pub fn take_pending(&mut self, document: DocumentId) -> Vec<Container>
+        ensures value { seen_containers result.items ≡ pending_of document.0 self.old }
         ensures taken { self.new ≡ without_pending document.0 self.old }
-        ensures distinct { HasNoDoubles (seen_targets result.items) }
+        ensures distinct { HasNoDoubles (seen_containers result.items) }
     {
         take_list(&mut self.pending, document)
     }

@@ -1,5 +1,5 @@
 use Rattle.std.proofs.Common.{◌≡◌, ◌∙◌, ◌+◌, length, ap, sym, subst}
-use Rattle.clip_chain.specs.declared.spot.Spot.{Spot}
+use Rattle.element_tree.specs.declared.container.Container.{Container}
 use Rattle.clip_chain.specs.Chains.{Leads}
 use Rattle.clip_chain.specs.Worlds.{element_spot, spot_of_root}
 use Rattle.intersection_observer.specs.Seen.{seen_root}
@@ -27,7 +27,7 @@ returns-in-Chained-clause-sight g c =
     λ between h.
     let leads = where_chained (g.S.Scene.standings c.args.scene.now root target) (Leads scene (element_spot target) between (spot_of_root root)) standing h in
     let pair = pair_of c.args.clips.now c.args.serial in
-    let lead = subst (λ (r : Spot). Leads scene pair.of between r) (sym ready.root_held) (subst (λ (o : Spot). Leads scene o between (spot_of_root root)) (sym ready.target_held) leads) in
+    let lead = subst (λ (r : Container). Leads scene pair.of between r) (sym ready.root_held) (subst (λ (o : Container). Leads scene o between (spot_of_root root)) (sym ready.target_held) leads) in
     let bounds = c.bounds.ensures.bounds in
     let clip = c.clip_of.ensures.clip between lead in
     (λ i. sights.Chained (bounds i) (clip i)) ∙ ap (λ (s : Standing). sight_over scene s target between) (sym standing)
@@ -43,7 +43,7 @@ returns-in-Chained-clause-clips g c =
     λ between h.
     let leads = where_chained (g.S.Scene.standings c.args.scene.now root target) (Leads scene (element_spot target) between (spot_of_root root)) standing h in
     let pair = pair_of c.args.clips.now c.args.serial in
-    let lead = subst (λ (r : Spot). Leads scene pair.of between r) (sym ready.root_held) (subst (λ (o : Spot). Leads scene o between (spot_of_root root)) (sym ready.target_held) leads) in
+    let lead = subst (λ (r : Container). Leads scene pair.of between r) (sym ready.root_held) (subst (λ (o : Container). Leads scene o between (spot_of_root root)) (sym ready.target_held) leads) in
     let clip = c.clip_of.ensures.clip between lead in
     once (is_current clips c.args.serial between) c.clip_of.new.self clips (with_clip c.args.serial (clip_between scene between) clips)
     (λ e. (c.clip_of.ensures.kept between lead e).0)
@@ -61,7 +61,7 @@ returns-in-Chained-clause-ticks g c =
     λ between h.
     let leads = where_chained (g.S.Scene.standings c.args.scene.now root target) (Leads scene (element_spot target) between (spot_of_root root)) standing h in
     let pair = pair_of c.args.clips.now c.args.serial in
-    let lead = subst (λ (r : Spot). Leads scene pair.of between r) (sym ready.root_held) (subst (λ (o : Spot). Leads scene o between (spot_of_root root)) (sym ready.target_held) leads) in
+    let lead = subst (λ (r : Container). Leads scene pair.of between r) (sym ready.root_held) (subst (λ (o : Container). Leads scene o between (spot_of_root root)) (sym ready.target_held) leads) in
     counted (is_current clips c.args.serial between) c.clip_of.new.steps c.args.steps.now (length between)
     (λ e. (c.clip_of.ensures.kept between lead e).1)
     (λ e. (c.clip_of.ensures.computed between lead e).1)

@@ -1,7 +1,7 @@
 use Rattle.std.proofs.Common.{◌≡◌, ◌∙◌, ap, sym, subst}
 use Rattle.px_units.specs.declared.Rect.{Rect}
 use Rattle.page_model.specs.Lookups.{intersection_observer_at}
-use Rattle.clip_chain.specs.declared.spot.Spot.{Spot}
+use Rattle.element_tree.specs.declared.container.Container.{Container}
 use Rattle.clip_chain.specs.Scenes.{through, root_bounds}
 use Rattle.clip_chain.specs.Worlds.{spot_of_root, scene_of}
 use Rattle.clip_chain.proofs.Moving.{root_through}
@@ -23,7 +23,7 @@ told-requires g c =
     ap spot_of_root (c.root_of-root.ensures
     ∙ ap (λ w. (intersection_observer_at it w).root)
     (sym (looked_up (λ (p : Place). p.watcher) (standing_of serial it) (record { watcher = 0; target = 0 }) c.watcher_of.result.0 c.watcher_of.ensures.value))) in
-    subst (λ (r : Spot). IsPlaced (root_bounds scene r) found) (sym same)
+    subst (λ (r : Container). IsPlaced (root_bounds scene r) found) (sym same)
     (subst (λ (r : Rect). IsPlaced r found) (root_through scene c.args.scroll.now root)
-    (subst (λ (r : Spot). IsPlaced (root_bounds (through r c.args.scroll.now scene) root) found) (c.spot_of_root.ensures ∙ same)
+    (subst (λ (r : Container). IsPlaced (root_bounds (through r c.args.scroll.now scene) root) found) (c.spot_of_root.ensures ∙ same)
     c.recompute-found.ensures.placed))

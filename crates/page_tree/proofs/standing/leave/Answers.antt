@@ -1,5 +1,6 @@
 use Rattle.std.proofs.Common.{◌<◌, ◌∙◌, ap, sym, subst, length, Some}
-use Rattle.page_tree.specs.Steps.{seen_container, IsBelow}
+use Rattle.container_model.specs.Seen.{seen_container}
+use Rattle.page_tree.specs.Steps.{IsBelow}
 use Rattle.page_tree.proofs.Places.{left_nowhere, left_parent, left_document, ended_count}
 use Rattle.page_tree.proofs.standing.leave.Goals as goal
 

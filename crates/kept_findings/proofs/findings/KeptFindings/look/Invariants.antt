@@ -1,6 +1,6 @@
 use Rattle.std.proofs.Common.{◌≡◌, ℕ, ◌<◌, get_or}
 use Rattle.std.specs.List.{All}
-use Rattle.clip_chain.specs.declared.spot.Spot.{Spot}
+use Rattle.element_tree.specs.declared.container.Container.{Container}
 use Rattle.kept_clips.specs.Looked.{IsLeft, Looked}
 use Rattle.candidate_index.specs.Registrations.{serials_at}
 use Rattle.kept_findings.specs.Looks.{IsNoted, AreLooked}
@@ -15,7 +15,7 @@ invariant-loop-registration g l =
       looked : Looked scene l.fn.self.seen l.self.seen l.fn.self.clips l.self.clips;
       kept : l.self.kept ≡ l.fn.self.kept;
       known : AreLooked scene (g.S.Geometry.rank l.scene) l.self.seen l.looks;
-      left : (spot : Spot) → All (AlongChain (IsNot spot) scene standings l.watchers.part) (serials_at l.watchers.part l.fn.watcher.0) →
+      left : (spot : Container) → All (AlongChain (IsNot spot) scene standings l.watchers.part) (serials_at l.watchers.part l.fn.watcher.0) →
           IsLeft l.fn.self.seen l.self.seen l.fn.self.clips.touches l.self.clips.touches spot;
       noted : (k : ℕ) → k < l.registration-index → AlongChain (IsNoted l.looks) scene standings l.watchers.part (get_or l.registrations k (record { 0 = 0 })).0;
     }

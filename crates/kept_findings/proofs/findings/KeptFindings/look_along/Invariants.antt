@@ -1,5 +1,5 @@
 use Rattle.std.proofs.Common.{◌≡◌}
-use Rattle.clip_chain.specs.declared.spot.Spot.{Spot}
+use Rattle.element_tree.specs.declared.container.Container.{Container}
 use Rattle.clip_chain.specs.Chains.{IsAbove}
 use Rattle.kept_clips.specs.Looked.{IsLeft, Looked}
 use Rattle.kept_findings.specs.Looks.{IsNoted, AreLooked}
@@ -18,8 +18,8 @@ invariant-loop-next g l =
       first : IsNoted l.looks l.fn.of;
       last : IsNoted l.looks l.root;
       passed : Passes scene l.root l.fn.of (IsNoted l.looks) l.spot;
-      left : (spot : Spot) → EachAlong (IsNot spot) scene l.fn.of l.root → IsLeft l.fn.self.seen l.self.seen l.fn.self.clips.touches l.self.clips.touches spot;
-      more : (other : Spot) → IsNoted l.fn.looks other → IsNoted l.looks other;
+      left : (spot : Container) → EachAlong (IsNot spot) scene l.fn.of l.root → IsLeft l.fn.self.seen l.self.seen l.fn.self.clips.touches l.self.clips.touches spot;
+      more : (other : Container) → IsNoted l.fn.looks other → IsNoted l.looks other;
     }
 
 abbrev pub decreases-loop-next : goal.decreases-loop-next

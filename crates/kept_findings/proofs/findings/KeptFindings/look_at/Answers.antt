@@ -1,5 +1,5 @@
 use Rattle.std.proofs.Common.{◌∙◌, ap, sym, subst}
-use Rattle.clip_chain.specs.declared.spot.Spot.{Spot}
+use Rattle.element_tree.specs.declared.container.Container.{Container}
 use Rattle.kept_clips.specs.Seen.{sighting_in, with_sighting}
 use Rattle.kept_clips.specs.Looked.{IsLeft}
 use Rattle.kept_findings.specs.Looks.{AreLooked}
@@ -10,7 +10,7 @@ use Rattle.kept_findings.proofs.findings.KeptFindings.look_at.Goals as goal
 pub returns-then-not-is_looked-clause-known : goal.returns-then-not-is_looked-clause-known
 returns-then-not-is_looked-clause-known g c =
     let scene = g.S.Geometry.scene c.args.scene.now in
-    let of : Spot = c.args.of in
+    let of : Container = c.args.of in
     subst (λ looks. AreLooked scene (g.S.Geometry.rank c.args.scene.now) c.look.new.self looks) (sym c.note.ensures)
     (looked_more scene (g.S.Geometry.rank c.args.scene.now) c.args.self.now.seen c.look.new.self c.args.looks.now of c.requires.room.room
     (c.look.ensures.seen ∙ ap (λ (held : HeldFindings). with_sighting of (sighting_in scene of) held.seen) c.self.view_is) c.look.ensures.in_range c.requires.known)

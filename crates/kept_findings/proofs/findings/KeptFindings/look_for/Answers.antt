@@ -1,5 +1,5 @@
 use Rattle.std.proofs.Common.{◌∙◌, refl, sym, subst}
-use Rattle.clip_chain.specs.declared.spot.Spot.{Spot}
+use Rattle.element_tree.specs.declared.container.Container.{Container}
 use Rattle.clip_chain.specs.Chains.{IsAbove}
 use Rattle.clip_chain.specs.Worlds.{element_spot, spot_of_root}
 use Rattle.intersection_observer.specs.Seen.{seen_root}
@@ -17,7 +17,7 @@ look_along-requires-clause-above g c =
     let standings = g.S.Scene.standings c.args.scene.now in
     let root = seen_root c.root_of-root.result in
     let target = c.target_of-target.result.0 in
-    subst (λ (s : Spot). IsAbove scene s (element_spot target)) (sym c.spot_of_root.ensures)
+    subst (λ (s : Container). IsAbove scene s (element_spot target)) (sym c.spot_of_root.ensures)
     (where_chained (standings root target) (IsAbove scene (spot_of_root root) (element_spot target)) (sym c.standing.ensures ∙ c.in-Chained.is) (c.requires.chained root target))
 
 pub look_along-requires-clause-room : goal.look_along-requires-clause-room

@@ -1,7 +1,7 @@
 use Rattle.std.proofs.Common.{◌≡◌, ℕ, Some, inl, inr, ap, sym, ◌∙◌, arith}
 use Rattle.layout_model.specs.Nodes.{Node, HeldByPage, holder}
-use Rattle.page_model.specs.World.{Tree}
-use Rattle.page_model.specs.Documents.{InDocument, nodes_of, tree_document}
+use Rattle.page_model.specs.World.{Tree, InDocument}
+use Rattle.page_model.specs.Documents.{nodes_of, tree_document}
 use Rattle.page_model.specs.Chains.{container_held, holding}
 use Rattle.block_layout.specs.Trees.{layout_tree}
 use Rattle.positioned_layout.specs.declared.Holder.{Holder}

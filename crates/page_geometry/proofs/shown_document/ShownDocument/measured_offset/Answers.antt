@@ -1,6 +1,6 @@
 use Rattle.std.proofs.Common.{ap, sym, subst, ◌∙◌, refl}
 use Rattle.layout_model.specs.Reach.{range_of_view}
-use Rattle.page_model.specs.World.{ScrolledDocument}
+use Rattle.page_model.specs.World.{InDocument}
 use Rattle.page_model.specs.Scrolls.{position_of, lesser_extent}
 use Rattle.page_model.specs.PageBoxes.{extent_of, view_of}
 use Rattle.scrolling.specs.Seen.{point_of}
@@ -16,7 +16,7 @@ pub returns-then-is_at_start-clause-value : goal.returns-then-is_at_start-clause
 returns-then-is_at_start-clause-value c =
     let it = c.args.self.now.shown in
     view_start it.tree it.screen it.scrolls c.args.self.now.document
-    ((λ i. position_of (ScrolledDocument (sym c.document.ensures i)) (sym c.scrolls.ensures i)) ∙ c.is_at_start.ensures.start c.if-is_at_start.true)
+    ((λ i. position_of (InDocument (sym c.document.ensures i)) (sym c.scrolls.ensures i)) ∙ c.is_at_start.ensures.start c.if-is_at_start.true)
 
 pub returns-in-Some-clause-value : goal.returns-in-Some-clause-value
 returns-in-Some-clause-value c =
@@ -27,7 +27,7 @@ returns-in-Some-clause-value c =
     (ap (λ at. as_size (range_of_view at view)) (sym nodes) ∙ ap as_size (view_range it.tree it.screen c.args.self.now.document))
     (c.shown_offset.ensures.value (sym (ap (λ at. (at (c.in-Some.shown.root.0)).parent) nodes) ∙ c.in-Some.ensures.top) view c.in-Some.ensures.shown
     (subst (λ at. HoldsAll at view c.boxes.result.now) nodes c.boxes.ensures.fresh)
-    ∙ (λ i. point_of (lesser_extent (position_of (ScrolledDocument (c.document.ensures i)) (c.scrolls-in-Some.ensures i)) (extent_of (range_of_view (layout_tree style_in kind_in c.elements.result.now.nodes) view)))))
+    ∙ (λ i. point_of (lesser_extent (position_of (InDocument (c.document.ensures i)) (c.scrolls-in-Some.ensures i)) (extent_of (range_of_view (layout_tree style_in kind_in c.elements.result.now.nodes) view)))))
 
 pub returns-in-None-clause-value : goal.returns-in-None-clause-value
 returns-in-None-clause-value c =

@@ -3,7 +3,7 @@ use Rattle.std.specs.Prelude.{is_some}
 use Rattle.layout_model.specs.Views.{inputs_in_view}
 use Rattle.layout_model.specs.Reach.{view_in_force}
 use Rattle.layout_model.specs.Places.{place_in}
-use Rattle.page_model.specs.World.{ScrolledDocument}
+use Rattle.page_model.specs.World.{InDocument}
 use Rattle.page_model.specs.Lookups.{element_at}
 use Rattle.page_model.specs.Scrolls.{position_of}
 use Rattle.page_model.specs.PageBoxes.{pair_of, stored_in, view_of, point_of, scroll_offset}
@@ -29,14 +29,14 @@ returns-clause-value c =
     let n = c.args.node.0 in
     let own = (element_at it.tree n).document in
     let view = view_of it.tree it.screen own in
-    let stored = pair_of (position_of (ScrolledDocument own) it.scrolls) in
+    let stored = pair_of (position_of (InDocument own) it.scrolls) in
     let nodes = c.elements.ensures.nodes in
     let there = sym c.has_box.ensures ∙ c.if-not-has_box.false in
     let boxed = sym (ap (λ at. is_some (inputs_in_view at view n)) nodes) ∙ sym (boxed_is it.tree it.screen n) ∙ there in
     let holds = subst (λ at. HoldsAll at view c.boxes.result.now) nodes (fresh_at it c.args.self.now.document n c.requires c.boxes.result.now c.boxes.ensures.fresh) in
     let forced =
     c.view_offset-view.ensures.value
-    ∙ ap (λ document. as_point (pair_of (scroll_offset it.tree it.screen it.scrolls (ScrolledDocument document)))) (sym c.requires)
+    ∙ ap (λ document. as_point (pair_of (scroll_offset it.tree it.screen it.scrolls (InDocument document)))) (sym c.requires)
     ∙ ap as_point (sym (document_offset it.tree it.screen it.scrolls own))
     ∙ ap (λ at. as_point (view_in_force at (record view { scrolled = stored }))) nodes in
     let known = in_force it c.args.self.now.document c.offsets.result own _ c.scrolls.result.now c.requires nodes c.scrolls.ensures c.offsets.ensures in

@@ -5,8 +5,8 @@ use Rattle.page_model.specs.Documents.{document_of_container}
 use Rattle.page_model.specs.PageBoxes.{pair_of, viewport_of}
 use Rattle.page_model.specs.Readings.{point_at, reading_of}
 use Rattle.block_layout.specs.Seen.{as_size}
-use Rattle.page_tree.specs.Steps.{seen_container}
-use Rattle.page_boxes.specs.Pages.{text_in}
+use Rattle.container_model.specs.Seen.{seen_container}
+use Rattle.page_model.specs.Names.{container_text}
 use Rattle.page_geometry.proofs.Boxes.{element_reading, document_reading, rect_same, edges_reach, span_reach}
 use Rattle.page_geometry.proofs.shown_document.ShownDocument.read.Goals as goal
 
@@ -15,7 +15,7 @@ returns-in-Element-clause-value c names =
     let it = c.args.self.now.shown in
     ap (λ k. reading_of names it.tree it.screen it.scrolls (seen_container k)) c.in-Element.is
     ∙ element_reading names it.tree it.screen it.scrolls (c.in-Element.node.0) c.border_rect.result c.offset_of.result c.border_rect.ensures.value c.offset_of.ensures.value
-    ∙ sym (ap (λ k. ReadLine (text_in names (seen_container k)) c.border_rect.result c.offset_of.result) c.in-Element.is)
+    ∙ sym (ap (λ k. ReadLine (container_text names (seen_container k)) c.border_rect.result c.offset_of.result) c.in-Element.is)
 
 pub returns-in-Document-clause-value : goal.returns-in-Document-clause-value
 returns-in-Document-clause-value c names =
@@ -27,7 +27,7 @@ returns-in-Document-clause-value c names =
     (rect_same c.rect_at.result (point_at no_extent) (point_at no_extent) c.viewport.result (viewport_of it.tree it.screen document) refl
     (c.viewport.ensures.value ∙ ap (λ d. as_size (pair_of (viewport_of it.tree it.screen d))) (sym own)) c.rect_at.ensures.value)
     c.offset_of-in-Document.ensures.value
-    ∙ sym (ap (λ k. ReadLine (text_in names (seen_container k)) c.rect_at.result c.offset_of-in-Document.result) c.in-Document.is)
+    ∙ sym (ap (λ k. ReadLine (container_text names (seen_container k)) c.rect_at.result c.offset_of-in-Document.result) c.in-Document.is)
 
 pub returns-in-Element-clause-edges : goal.returns-in-Element-clause-edges
 returns-in-Element-clause-edges c = edges_reach c.border_rect.result c.border_rect.ensures.edges

@@ -1,6 +1,6 @@
 use Rattle.std.proofs.Common.{option_map}
 use Rattle.element_tree.specs.Links.{number}
-use Rattle.page_tree.specs.Steps.{seen_container}
+use Rattle.container_model.specs.Seen.{seen_container}
 use Rattle.page_layout.proofs.Marking.{kept_placed}
 use Rattle.page_layout.proofs.laid.LaidTree.place.Goals as goal
 

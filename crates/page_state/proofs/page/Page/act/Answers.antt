@@ -8,7 +8,7 @@ use Rattle.script_syntax.specs.declared.commands.Action.{Action}
 use Rattle.trace_text.specs.declared.TraceLine.TheVariants as trace
 use Rattle.page_state.specs.declared.answers.Effect.TheVariants.{Line}
 use Rattle.page_state.specs.Answers.{Kept}
-use Rattle.page_state.specs.Things.{present_of}
+use Rattle.page_names.specs.Things.{present_of}
 use Rattle.page_state.proofs.Doing.{kept_at, says}
 use Rattle.page_state.proofs.page.Page.act.Goals as goal
 

@@ -1,10 +1,10 @@
 -- An element is put last.
 use Rattle.std.proofs.Common.{ap}
 use Rattle.script_syntax.specs.Seen.{operand_of}
-use Rattle.page_tree.specs.Steps.{seen_container}
-use Rattle.page_state.specs.Things.{present_of}
+use Rattle.container_model.specs.Seen.{seen_container}
+use Rattle.page_names.specs.Things.{present_of}
 use Rattle.page_state.proofs.Doing.{appends, keeps_by}
-use Rattle.page_model.specs.Documents.{Container}
+use Rattle.page_model.specs.World.{Container}
 use Rattle.page_model.specs.Steps.{Step}
 use Rattle.page_state.specs.Boxes.{found, inside}
 use Rattle.page_state.proofs.Marked.{marks_moved}

@@ -2,11 +2,10 @@
 use Rattle.std.proofs.Common.{◌≡◌, ap, sym, subst, ◌∙◌}
 use Rattle.std.specs.Prelude.{Bool, unsigned_abs}
 use Rattle.page_model.specs.Commands.{asked}
-use Rattle.page_model.specs.Documents.{InElement}
 use Rattle.page_model.specs.Operands.{element_meant}
 use Rattle.page_boxes.specs.Around.{rests_on}
 use Rattle.page_model.specs.Steps.{Did}
-use Rattle.page_model.specs.World.{Extent}
+use Rattle.page_model.specs.World.{Extent, InElement}
 use Rattle.script_syntax.specs.declared.operands.Test.{Test}
 use Rattle.script_syntax.specs.Seen.{test_of, operand_of}
 use Rattle.page_state.specs.Things.{present_with}

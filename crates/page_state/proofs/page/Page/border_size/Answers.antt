@@ -1,5 +1,5 @@
 -- The boxes of the element's document are computed.
-use Rattle.page_model.specs.Documents.{InElement}
+use Rattle.page_model.specs.World.{InElement}
 use Rattle.page_boxes.specs.Around.{rests_on}
 use Rattle.page_state.proofs.Laid.{computed_in}
 use Rattle.page_state.proofs.page.Page.border_size.Goals as goal

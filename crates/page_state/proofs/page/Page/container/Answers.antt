@@ -1,7 +1,7 @@
 -- What is found is there.
 use Rattle.std.proofs.Common.{IfOk, length, sym, subst}
 use Rattle.page_state.specs.Labels.{IsIn}
-use Rattle.page_state.specs.Things.{IsSubject}
+use Rattle.page_names.specs.Things.{IsSubject}
 use Rattle.page_state.specs.Views.{PageView}
 use Rattle.page_state.specs.Worlds.{counts_in}
 use Rattle.page_state.proofs.Inside.{container_in}

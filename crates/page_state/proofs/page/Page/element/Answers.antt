@@ -1,7 +1,7 @@
 -- What is found is there.
 use Rattle.std.proofs.Common.{◌<◌, IfOk, length, sym, subst}
 use Rattle.element_tree.specs.declared.node.NodeId.{NodeId}
-use Rattle.page_state.specs.Things.{IsSubject}
+use Rattle.page_names.specs.Things.{IsSubject}
 use Rattle.page_state.specs.Views.{PageView}
 use Rattle.page_state.specs.Worlds.{counts_in}
 use Rattle.page_state.proofs.page.Page.element.Goals as goal

@@ -5,7 +5,7 @@ use Rattle.page_model.specs.Names.{named_thing}
 use Rattle.page_tree.specs.Views.{PageElements}
 use Rattle.clip_chain.specs.Worlds.{element_spot}
 use Rattle.page_state.proofs.Findings.{roomier_then}
-use Rattle.page_state.proofs.Found.{still_free}
+use Rattle.page_names.proofs.Found.{still_free}
 use Rattle.page_model.specs.Edits.{with_frame}
 use Rattle.page_state.proofs.Inside.{prepared, framed_page}
 use Rattle.page_state.proofs.Made.{due_made, due_still}

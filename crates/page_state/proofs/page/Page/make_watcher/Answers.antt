@@ -9,7 +9,7 @@ use Rattle.page_model.specs.World.{IntersectionObserverThing, Name}
 use Rattle.page_model.specs.Callbacks.{handler_names}
 use Rattle.page_model.specs.Steps.{Did, required}
 use Rattle.intersection_observer.specs.Seen.{seen_root}
-use Rattle.page_state.specs.Things.{present_of}
+use Rattle.page_names.specs.Things.{present_of}
 use Rattle.page_state.specs.Watchers.{new_thresholds}
 use Rattle.page_state.proofs.Inside.{seeing_page}
 use Rattle.page_state.proofs.Making.{made_page, unmade_page}

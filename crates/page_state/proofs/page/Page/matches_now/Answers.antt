@@ -1,8 +1,7 @@
 -- A query list is asked in the viewport of its document.
 use Rattle.std.proofs.Common.{◌≡◌, ◌<◌, ℕ, length, sym, ap, subst, ◌∙◌}
 use Rattle.std.proofs.lemmas.List.{length-map}
-use Rattle.page_model.specs.World.{QueryList}
-use Rattle.page_model.specs.Documents.{InDocument}
+use Rattle.page_model.specs.World.{QueryList, InDocument}
 use Rattle.page_model.specs.Lookups.{query_list_at}
 use Rattle.page_model.specs.PageBoxes.{viewport_of}
 use Rattle.page_boxes.specs.Around.{rests_on}

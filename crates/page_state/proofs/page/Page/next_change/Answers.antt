@@ -1,6 +1,6 @@
 -- The query list that was found has its new state.
 use Rattle.std.proofs.Common.{◌≡◌, ◌<◌, true, List, Some, length, map, ap, subst, ◌∙◌}
-use Rattle.page_model.specs.Documents.{InDocument}
+use Rattle.page_model.specs.World.{InDocument}
 use Rattle.page_model.specs.PageBoxes.{viewport_of}
 use Rattle.page_model.specs.Lookups.{query_list_at}
 use Rattle.page_boxes.specs.Around.{rests_on}

@@ -4,7 +4,7 @@ use Rattle.std.specs.Option.{IsSome}
 use Rattle.page_model.specs.World.{ResizeObserverThing, Name}
 use Rattle.page_model.specs.Names.{is_same_thing}
 use Rattle.page_state.specs.Views.{PageView}
-use Rattle.page_state.proofs.Found.{some_named}
+use Rattle.page_names.proofs.Found.{some_named}
 use Rattle.page_state.proofs.page.Page.observer_name.Goals as goal
 
 pub unwrap-requires : goal.unwrap-requires

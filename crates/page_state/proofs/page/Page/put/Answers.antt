@@ -2,7 +2,7 @@
 use Rattle.std.proofs.Common.{ap, option_map, Ok, Some, subst, ◌∙◌}
 use Rattle.element_tree.specs.Links.{number}
 use Rattle.page_model.specs.Commands.{placing}
-use Rattle.page_tree.specs.Steps.{seen_container}
+use Rattle.container_model.specs.Seen.{seen_container}
 use Rattle.page_layout.specs.Views.{LaidElements}
 use Rattle.page_tree.specs.Views.{PageElements}
 use Rattle.page_state.proofs.Inside.{edited}

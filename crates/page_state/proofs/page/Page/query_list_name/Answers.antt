@@ -6,7 +6,7 @@ use Rattle.page_model.specs.World.{QueryListThing, Name}
 use Rattle.page_model.specs.Names.{is_same_thing}
 use Rattle.page_state.specs.Queries.{seen_query_list}
 use Rattle.page_state.specs.Views.{PageView}
-use Rattle.page_state.proofs.Found.{some_named}
+use Rattle.page_names.proofs.Found.{some_named}
 use Rattle.page_state.proofs.page.Page.query_list_name.Goals as goal
 
 pub unwrap-requires : goal.unwrap-requires

@@ -4,7 +4,7 @@ use Rattle.script_model.specs.TraceLines.{ReadLine}
 use Rattle.page_model.specs.World.{Tree}
 use Rattle.page_model.specs.Documents.{document_of_container}
 use Rattle.page_model.specs.Readings.{reading_of}
-use Rattle.page_tree.specs.Steps.{seen_container}
+use Rattle.container_model.specs.Seen.{seen_container}
 use Rattle.page_geometry.specs.Documents.{ShownIn}
 use Rattle.page_state.specs.Boxes.{ComputesIn}
 use Rattle.page_state.specs.Views.{PageView}
@@ -22,17 +22,17 @@ returns-clause-line g c =
 pub returns-clause-boxes : goal.returns-clause-boxes
 returns-clause-boxes g c =
     let own =
-    c.document_read-document.ensures
+    c.document_of_container-document.ensures
     ∙ ap (λ (tree : Tree). document_of_container tree (seen_container c.args.container)) (c.page.ensures.tree ∙ ap (λ (page : PageView). page.world.tree) c.self.view_is) in
     subst (λ (document : ℕ). ComputesIn c.args.self.now.world (Some document) c.args.self.now.kept c.refresh_in.new.self.kept c.args.steps.now c.refresh_in.new.steps)
     own
     (computed_in c.self.inside c.refresh_in.new.self c.refresh_in.ensures.same c.args.self.now c.self.view_is c.refresh_in.ensures.fills _ _ c.refresh_in.ensures.ticks
-    (λ tree. Some c.document_read-document.result.0) c.refresh_in.ensures.left)
+    (λ tree. Some c.document_of_container-document.result.0) c.refresh_in.ensures.left)
 
 pub read-shown-requires : goal.read-shown-requires
 read-shown-requires g c =
     let own =
-    c.document_read-document.ensures
+    c.document_of_container-document.ensures
     ∙ ap (λ (tree : Tree). document_of_container tree (seen_container c.args.container)) (c.page.ensures.tree ∙ ap (λ (page : PageView). page.world.tree) c.self.view_is) in
     ap (λ (it : ShownIn). document_of_container it.shown.tree (seen_container c.args.container)) c.shown_in.ensures
     ∙ ap (λ (page : PageView). document_of_container page.world.tree (seen_container c.args.container))

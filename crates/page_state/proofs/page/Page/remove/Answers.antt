@@ -2,7 +2,7 @@
 use Rattle.std.proofs.Common.{ap, sym, ◌∙◌, Ok}
 use Rattle.script_syntax.specs.Seen.{operand_of}
 use Rattle.page_model.specs.Steps.{becomes}
-use Rattle.page_state.specs.Things.{present_of}
+use Rattle.page_names.specs.Things.{present_of}
 use Rattle.page_state.specs.Views.{PageView}
 use Rattle.page_state.proofs.Doing.{removes}
 use Rattle.page_state.specs.Boxes.{found}

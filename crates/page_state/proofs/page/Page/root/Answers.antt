@@ -1,13 +1,13 @@
 -- The root that is named, or the exception.
 use Rattle.std.proofs.Common.{ap, ◌∙◌, option_map}
-use Rattle.page_model.specs.Documents.{Container, InElement, InDocument}
+use Rattle.page_model.specs.World.{Container, InElement, InDocument}
 use Rattle.page_model.specs.Operands.{container_meant, root_at, root_meant}
 use Rattle.page_model.specs.Steps.{Did}
-use Rattle.page_tree.specs.declared.page.Container.{Container as Place}
-use Rattle.page_tree.specs.Steps.{seen_container}
+use Rattle.element_tree.specs.declared.container.Container.{Container as Place}
+use Rattle.container_model.specs.Seen.{seen_container}
 use Rattle.script_syntax.specs.Seen.{operand_of}
-use Rattle.page_state.specs.Things.{present_of}
-use Rattle.page_state.proofs.Steps.{then_did, then_threw}
+use Rattle.page_names.specs.Things.{present_of}
+use Rattle.page_names.proofs.Steps.{then_did, then_threw}
 use Rattle.page_state.proofs.page.Page.root.Goals as goal
 
 pub returns-in-Ok-Element : goal.returns-in-Ok-Element

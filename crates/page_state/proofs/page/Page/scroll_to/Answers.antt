@@ -2,11 +2,10 @@
 use Rattle.std.proofs.Common.{◌≡◌, Some, option_map, sym, ap, subst, ◌∙◌, List}
 use Rattle.page_model.specs.Scrolling.{scrolled_thing, scrolled_to}
 use Rattle.page_model.specs.Steps.{becomes}
-use Rattle.page_tree.specs.Steps.{seen_container}
-use Rattle.scrolling.specs.Seen.{seen_target}
+use Rattle.container_model.specs.Seen.{seen_container}
 use Rattle.script_syntax.specs.Seen.{operand_of}
 use Rattle.page_state.specs.Answers.{Keeps}
-use Rattle.page_state.specs.Things.{present_of}
+use Rattle.page_names.specs.Things.{present_of}
 use Rattle.page_state.specs.Views.{PageView}
 use Rattle.kept_layout.specs.declared.slots.Slot.{Slot}
 use Rattle.page_state.specs.Boxes.{ComputesIn, document_meant}
@@ -17,8 +16,8 @@ use Rattle.page_state.proofs.page.Page.scroll_to.Goals as goal
 pub returns-clause-done : goal.returns-clause-done
 returns-clause-done g c =
     let world = c.args.self.now.world in
-    let target = Some (seen_target c.in-Some.target) in
-    let thing : scrolled_thing world.tree world.viewports.screen (seen_container c.in_ok-container.container) ≡ target = sym c.scrolled_thing.ensures ∙ ap (option_map seen_target) c.in-Some.is in
+    let target = Some (seen_container c.in-Some.target) in
+    let thing : scrolled_thing world.tree world.viewports.screen (seen_container c.in_ok-container.container) ≡ target = sym c.scrolled_thing.ensures ∙ ap (option_map seen_container) c.in-Some.is in
     keeps_by
     (keeps_since (subst (λ (v : PageView). Keeps v c.move_to.new.self c.move_to.result (λ handlers. becomes (scrolled_to c.args.to.left c.args.to.top target v.world))) c.reach-reach.ensures.same c.move_to.ensures.done))
     (λ handlers. scrolls_to handlers world (present_of c.args.subject) (operand_of c.args.of) (seen_container c.in_ok-container.container) c.in_ok-container.ensures.answer target thing c.args.to.left c.args.to.top)
@@ -29,5 +28,5 @@ returns-clause-boxes g c =
     let present = present_of c.args.subject in
     let operand = operand_of c.args.of in
     subst (λ (slots : List Slot). ComputesIn world (document_meant world present operand) c.args.self.now.kept slots c.args.steps.now c.reach-reach.new.steps) (sym c.move_to.ensures.boxes)
-    (computes_scrolled world _ _ _ _ present operand (seen_container c.in_ok-container.container) c.in_ok-container.ensures.answer (seen_target c.in-Some.target)
-    (sym c.scrolled_thing.ensures ∙ ap (option_map seen_target) c.in-Some.is) c.reach-reach.ensures.boxes)
+    (computes_scrolled world _ _ _ _ present operand (seen_container c.in_ok-container.container) c.in_ok-container.ensures.answer (seen_container c.in-Some.target)
+    (sym c.scrolled_thing.ensures ∙ ap (option_map seen_container) c.in-Some.is) c.reach-reach.ensures.boxes)

@@ -3,8 +3,7 @@ use Rattle.std.proofs.Common.{◌≡◌, ◌<◌, ◌≤◌, Option, Some, None,
 use Rattle.std.specs.List.{AllByRecursion}
 use Rattle.std.specs.Option.{ForSome}
 use Rattle.px_units.specs.declared.Size.{Size}
-use Rattle.page_model.specs.World.{Extent, Tree}
-use Rattle.page_model.specs.Documents.{InDocument}
+use Rattle.page_model.specs.World.{Extent, Tree, InDocument}
 use Rattle.page_model.specs.PageBoxes.{viewport_of}
 use Rattle.page_model.specs.Viewports.{noted_size, with_noted, differs_from}
 use Rattle.page_boxes.specs.Around.{rests_on}

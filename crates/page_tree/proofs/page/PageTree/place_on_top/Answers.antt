@@ -1,6 +1,6 @@
 use Rattle.std.proofs.Common.{◌<◌, ap, sym, subst, ◌∙◌, length, option_map}
 use Rattle.element_tree.specs.Links.{number}
-use Rattle.page_model.specs.Documents.{InDocument}
+use Rattle.page_model.specs.World.{InDocument}
 use Rattle.page_model.specs.Commands.{placing}
 use Rattle.page_documents.specs.Held.{HeldDocuments}
 use Rattle.page_documents.specs.Seen.{seen_tree}

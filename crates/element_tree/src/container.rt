@@ -1,0 +1,13 @@
+//! An element or a document.
+
+use crate::{DocumentId, NodeId};
+
+/// An element or a document. Elements are put into either (DOM, 4.2.3). Either is scrolled: an element that is a scroll container, or a
+/// document's viewport (CSSOM View, 4 to 6). And chains of what holds boxes and clips them go through both (Intersection Observer, 3.2.7).
+#[derive(Clone, Copy, PartialEq, Eq, Debug)]
+pub enum Container {
+    /// This element.
+    Element(NodeId),
+    /// This document, or its viewport; `top` is number 0.
+    Document(DocumentId),
+}

@@ -1,0 +1,5 @@
+pub mod Steps
+mod Finding
+pub mod Found
+mod Named
+mod Handlers
