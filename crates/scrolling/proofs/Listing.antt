@@ -1,6 +1,7 @@
 -- Pending lists as they are seen.
 use Rattle.std.proofs.Common.{◌≡◌, ℕ, zero, suc, ◌<◌, ◌≤◌, ◌+◌, ◌∙◌, Bool, true, false, List, [], ◌∷◌, ◌++◌, length, set, get_or, replicate, append_assoc, refl, ap, sym, arith}
 use Rattle.std.proofs.lemmas.Bool.{cond-true, cond-false}
+use Rattle.std.proofs.lemmas.Bool.Decides.{same_from_decides, Decides-eqb, Decides-like}
 use Rattle.std.proofs.lemmas.List.{map_push, length-map}
 use Rattle.std.specs.Prelude.{map, ◌==◌}
 use Rattle.std.specs.Global.{Vec}
@@ -19,10 +20,7 @@ use Rattle.scrolling.proofs.Puts.{put_behind}
 -- containers are compared as what they are seen as
 
 same_turned : (a b : ℕ) → (a == b) ≡ (b == a)
-same_turned zero zero = refl
-same_turned zero (suc b) = refl
-same_turned (suc a) zero = refl
-same_turned (suc a) (suc b) = same_turned a b
+same_turned a b = same_from_decides (a == b) (b == a) (Decides-eqb a b) (Decides-like (b == a) (λ same. sym same) (λ same. sym same) (Decides-eqb b a))
 
 same_container : (each target : Container) → (containers.ghosts).eq each target ≡ is_same_container (seen_container target) (seen_container each)
 same_container (Element a) (Element b) = same_turned a.0 b.0
