@@ -143,8 +143,11 @@ impl KeptFindings {
         ensures registered { OnOk result (self.new ≡ with_findings registration.0 (spot_of_root (seen_root root)) (element_spot target.0) self.old) }
         ensures same { OnErr result (self.new ≡ self.old) }
     {
-        self.clips
-            .hold(registration.0, spot_of_root(root), Container::Element(target))?;
+        self.clips.hold(
+            registration.0,
+            spot_of_root(root),
+            Container::Element(target),
+        )?;
         if let Err(error) = self.index.add(registration) {
             self.clips.release(registration.0);
             return Err(error);

@@ -32,9 +32,21 @@ const SECOND: WatcherId = WatcherId(1);
 // The registrations with their roots and targets: two of an observer of the top document, whose root is moved out by 64
 // units, and one of an observer of element 1.
 const REGISTRATIONS: [(u64, Container, Container); 3] = [
-    (0, Container::Document(DocumentId(0)), Container::Element(NodeId(7))),
-    (1, Container::Document(DocumentId(0)), Container::Element(NodeId(4))),
-    (2, Container::Element(NodeId(1)), Container::Element(NodeId(6))),
+    (
+        0,
+        Container::Document(DocumentId(0)),
+        Container::Element(NodeId(7)),
+    ),
+    (
+        1,
+        Container::Document(DocumentId(0)),
+        Container::Element(NodeId(4)),
+    ),
+    (
+        2,
+        Container::Element(NodeId(1)),
+        Container::Element(NodeId(6)),
+    ),
 ];
 
 // The root rectangle with its margins, and within a narrow viewport; the root of the second observer.

@@ -30,10 +30,26 @@ enum Step {
 }
 
 const PAIRS: [(u64, Container, Container); 4] = [
-    (1, Container::Document(DocumentId(0)), Container::Element(NodeId(7))),
-    (2, Container::Document(DocumentId(0)), Container::Element(NodeId(4))),
-    (3, Container::Element(NodeId(1)), Container::Element(NodeId(6))),
-    (4, Container::Element(NodeId(0)), Container::Element(NodeId(1))),
+    (
+        1,
+        Container::Document(DocumentId(0)),
+        Container::Element(NodeId(7)),
+    ),
+    (
+        2,
+        Container::Document(DocumentId(0)),
+        Container::Element(NodeId(4)),
+    ),
+    (
+        3,
+        Container::Element(NodeId(1)),
+        Container::Element(NodeId(6)),
+    ),
+    (
+        4,
+        Container::Element(NodeId(0)),
+        Container::Element(NodeId(1)),
+    ),
 ];
 
 const STEPS: [Step; 28] = [

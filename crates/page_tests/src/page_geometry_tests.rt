@@ -474,7 +474,9 @@ fn see_chain<S: Scene>(rt: &impl Abort, scene: &S, root: Root, target: NodeId)
     ensures { IfChained (S.standings scene.now (seen_root root) target.0) (IsAbove (S.scene scene.now) (spot_of_root (seen_root root)) (element_spot target.0)) }
 {
     match scene.standing(root, target) {
-        Standing::Chained => { assert!(rt; reaches(scene, Container::Element(target), spot_of_root(root))) }
+        Standing::Chained => {
+            assert!(rt; reaches(scene, Container::Element(target), spot_of_root(root)))
+        }
         Standing::Apart | Standing::NoBox => {}
     }
 }
@@ -495,7 +497,11 @@ fn clips_for<S: Scene>(
     see_chain(rt, scene, root, target);
     let mut clips = Clips::new(alloc);
     assert!(rt; clips.pair(registration.0).is_none());
-    clips.hold(registration.0, spot_of_root(root), Container::Element(target))?;
+    clips.hold(
+        registration.0,
+        spot_of_root(root),
+        Container::Element(target),
+    )?;
     let pair = clips.pair(registration.0).expect(rt, "a pair");
     assert!(rt; pair.root == spot_of_root(root));
     assert!(rt; pair.of == Container::Element(target));

@@ -56,7 +56,11 @@ fn the_first_name_of_a_thing_is_told(rt: HostRuntime) -> Result<(), Fail> {
 #[test]
 fn operands_are_things_of_their_kinds(rt: HostRuntime) -> Result<(), Fail> {
     let mut names = Names::new(rt.alloc());
-    let (top, watch, seen) = (named(&rt, b"top"), named(&rt, b"watch"), named(&rt, b"seen"));
+    let (top, watch, seen) = (
+        named(&rt, b"top"),
+        named(&rt, b"watch"),
+        named(&rt, b"seen"),
+    );
     assert!(rt; give(&mut names, top, Thing::Document(DocumentId(0)))?);
     assert!(rt; give(&mut names, watch, Thing::ResizeObserver(ObserverId(0)))?);
     assert!(rt; give(&mut names, seen, Thing::IntersectionObserver(WatcherId(1)))?);
@@ -70,11 +74,17 @@ fn operands_are_things_of_their_kinds(rt: HostRuntime) -> Result<(), Fail> {
         Ok(Container::Document(DocumentId(0)))
     );
     assert_eq!(rt; names.element(Operand::Target, target), Ok(NodeId(7)));
-    assert_eq!(rt; names.element(Operand::Target, None), Err(ThrowKind::ReferenceError));
+    assert_eq!(rt;
+        names.element(Operand::Target, None),
+        Err(ThrowKind::ReferenceError)
+    );
     let window = Ok(EventTarget::Window(DocumentId(0)));
     assert_eq!(rt; names.event_target(Aim::Window(top), None), window);
     let second = names.check_also_free(named(&rt, b"f"), named(&rt, b"f"));
     assert_eq!(rt; second, Err(ThrowKind::TypeError));
-    assert_eq!(rt; names.check_also_free(named(&rt, b"f"), named(&rt, b"g")), Ok(()));
+    assert_eq!(rt;
+        names.check_also_free(named(&rt, b"f"), named(&rt, b"g")),
+        Ok(())
+    );
     Ok(())
 }
