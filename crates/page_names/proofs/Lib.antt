@@ -2,4 +2,4 @@ pub mod Steps
 mod Finding
 pub mod Found
 mod Named
-mod Handlers
+mod HandlerNames

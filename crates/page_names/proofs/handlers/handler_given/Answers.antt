@@ -1,5 +1,5 @@
 -- A handler that is named.
-use Rattle.page_names.proofs.Handlers.{given_found, given_missing}
+use Rattle.page_names.proofs.HandlerNames.{given_found, given_missing}
 use Rattle.page_names.proofs.handlers.handler_given.Goals as goal
 
 pub returns-in-Ok : goal.returns-in-Ok

@@ -1,5 +1,5 @@
 -- A handler's number is its place among the names.
-use Rattle.page_names.proofs.Handlers.{handler_found, handler_missing}
+use Rattle.page_names.proofs.HandlerNames.{handler_found, handler_missing}
 use Rattle.page_names.proofs.handlers.handler_named.Goals as goal
 
 pub returns-in-Some : goal.returns-in-Some
