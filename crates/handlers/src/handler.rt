@@ -1,8 +1,9 @@
 //! A handler, called with the entries of its callback.
 
-ghost use Rattle.std.specs.Prelude.{option_map, Some};
+ghost use Rattle.std.specs.Prelude.{length, option_map, IfOk, Some};
 ghost use Rattle.script_model.specs.Scripts.{handlers_in};
 ghost use Rattle.page_model.specs.Callbacks.{call, presents, run_handler};
+ghost use Rattle.page_laws.specs.Ready.{IsReadyFor};
 ghost use Rattle.trace_runs.specs.Flows.{goes_on};
 ghost use Rattle.trace_runs.specs.Runs.{Runs};
 ghost use Rattle.handlers.specs.Entries.{entries_of, AreHanded, AreIn};
@@ -66,7 +67,8 @@ fn run_named<K: Sink, L: Ledger>(
 }
 
 /// Calls a handler for a document, with entries: nothing where the document isn't Active, else a line for each entry and then
-/// the handler's block, if there is a handler. An exception ends the block alone.
+/// the handler's block, if there is a handler. An exception ends the block alone. With Ok a page that was ready for a tick of the
+/// script is so still (`IsReadyFor`).
 ///
 /// # Errors
 /// - `Limit` only where a limit is met, where it never answers Ok; all but the limit's own line was written.
@@ -83,8 +85,9 @@ pub fn run_handler<K: Sink, L: Ledger>(
     steps: &mut Steps<L>,
 ) -> Result<(), RunFault>
     requires handed { AreHanded page.old.world (entries_of entries.now) }
-    ensures { Runs goes_on (λ _. page.new.world) result (K.taken sink.old) (K.taken sink.new) (K.faults sink.old) (K.faults sink.new)
+    ensures says { Runs goes_on (λ _. page.new.world) result (K.taken sink.old) (K.taken sink.new) (K.faults sink.old) (K.faults sink.new)
         (call (handlers_in script.now.items) document.0 (option_map (λ it. it.0) handler) (entries_of entries.now) page.old.world) }
+    ensures ready { IsReadyFor (length (handlers_in script.now.items)) page.old.world → IfOk result (λ _. IsReadyFor (length (handlers_in script.now.items)) page.new.world) }
 {
     if !page.is_active(document) {
         return Ok(());
