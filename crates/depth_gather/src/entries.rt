@@ -51,11 +51,4 @@ impl ResizeList {
     {
         self.entries.as_slice()
     }
-
-    /// Its entries, given back.
-    pub fn into_entries(self) -> Vec<ResizeEntry>
-        ensures { result.items ≡ self }
-    {
-        self.entries
-    }
 }

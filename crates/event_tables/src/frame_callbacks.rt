@@ -48,20 +48,6 @@ impl FrameCallbacks {
         }
     }
 
-    /// Whether as many are held as may be, so that a new one meets `Limit`.
-    pub fn is_full(&self) -> bool
-        ensures { result ≡ not (has_room self.now) }
-    {
-        self.entries.is_full()
-    }
-
-    /// Whether a document has a frame callback under a key.
-    pub fn is_there(&self, document: DocumentId, key: Name) -> bool
-        ensures { result ≡ is_frame_requested document.0 key self.now.part }
-    {
-        self.entries.has_key(DocumentKey { document, key })
-    }
-
     /// Requests a frame callback of a document under a key, last.
     ///
     /// `Taken` exactly where the document has the key; else `Limit` exactly where `most` are held; else `Memory` where

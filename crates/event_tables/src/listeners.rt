@@ -81,21 +81,6 @@ impl Listeners {
         }
     }
 
-    /// Whether as many are held as may be, so that a new one meets `Limit`.
-    pub fn is_full(&self) -> bool
-        ensures { result ≡ not (has_room self.now) }
-    {
-        self.entries.is_full()
-    }
-
-    /// Whether a handler listens for an event at a target.
-    pub fn is_there(&self, target: EventTarget, kind: EventKind, handler: HandlerId) -> bool
-        ensures { result ≡ is_listening (seen_target target) kind handler.0 self.now.part }
-    {
-        self.entries
-            .has_key(ListenerKey::new(target, kind, handler))
-    }
-
     /// Adds a listener, last (DOM, 2.7: add an event listener). The answer is false, and nothing changes, exactly where
     /// the same handler listens for the same event at the same target already.
     ///

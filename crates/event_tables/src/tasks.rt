@@ -48,8 +48,8 @@ impl Tasks {
         }
     }
 
-    /// Whether as many posted tasks wait as may, so that a further one meets `Limit`.
-    pub fn is_full(&self) -> bool
+    // Whether as many posted tasks wait as may, so that a further one meets `Limit`.
+    fn is_full(&self) -> bool
         ensures { result ≡ not (has_room self.now) }
     {
         self.posted >= self.most

@@ -1,5 +1,5 @@
 -- The intersection observers that this crate keeps: the definitions' part, and how many there may be.
-use Rattle.std.specs.Prelude.{ℕ, Bool, ◌==◌, ◌||◌, cond, nat_lt, not, length, find, filter, List, Option, option_map}
+use Rattle.std.specs.Prelude.{ℕ, Bool, ◌==◌, cond, nat_lt, not, length, find, filter, List, Option, option_map}
 use Rattle.page_model.specs.World.{Registration, IntersectionObserver, IntersectionObservers}
 use Rattle.page_model.specs.Lookups.{intersection_observer_at}
 use Rattle.page_model.specs.IntersectionObserving.{is_registered, intersection_observations, with_registration}
@@ -25,10 +25,6 @@ observes watcher n it = is_registered n (watcher_at it watcher).registrations
 -- whether one more registration may be held
 abbrev pub may_register : HeldWatchers → Bool
 may_register it = nat_lt (intersection_observations it.part) it.most_registrations
-
--- whether an observer may observe a target: one that is there already needs no room
-abbrev pub may_observe : ℕ → ℕ → HeldWatchers → Bool
-may_observe watcher n it = observes watcher n it || may_register it
 
 -- once a target was observed: one that is there already is left as it is
 abbrev pub once_observed : ℕ → ℕ → IntersectionObservers → IntersectionObservers

@@ -7,7 +7,7 @@ ghost use Rattle.intersection_observer.specs.Seen.{seen_root, seen_finding, seri
 ghost use Rattle.intersection_observer.specs.Places.{Standing, standing_of, IsStanding};
 ghost use Rattle.intersection_observer.specs.Serials.{HasSerials};
 ghost use Rattle.intersection_observer.specs.Settling.{with_settled, is_news_for};
-ghost use Rattle.intersection_observer.specs.Watchers.{watcher_at, has_room, observes, may_register, may_observe, once_observed, serial_of};
+ghost use Rattle.intersection_observer.specs.Watchers.{watcher_at, has_room, observes, may_register, once_observed, serial_of};
 ghost use Rattle.intersection_observer.specs.Answers.{Enters, Registers, Settles};
 ghost use Rattle.intersection_observer.specs.Held.{seen_place};
 ghost use Rattle.intersection_observer.specs.declared.registration.Settled.TheVariants.{Kept};
@@ -117,14 +117,6 @@ impl Watchers {
             return Err(WatchFault::Memory);
         };
         Ok(WatcherId(number))
-    }
-
-    /// Whether a target is there or there is room for one more, so that `observe` doesn't answer `Limit`.
-    pub fn may_observe(&self, watcher: WatcherId, target: NodeId) -> bool
-        requires { watcher.0 < length self.now.part.made }
-        ensures { result ≡ may_observe watcher.0 target.0 self.now }
-    {
-        self.made[watcher.0 as usize].observes(target) || self.has_space()
     }
 
     // Whether one more registration may be held.

@@ -1,5 +1,5 @@
 -- What was seen last of each spot: what it stood in, what it clipped to, its box, and whether it was a scroll container.
-use Rattle.std.specs.Prelude.{ℕ, suc, ◌<◌, ◌-◌, Bool, false, nat_lt, List, ◌++◌, length, replicate, slice_set, Option, Some, None, option_and_then, option_map, unwrap_or}
+use Rattle.std.specs.Prelude.{ℕ, suc, ◌<◌, ◌-◌, Bool, false, List, ◌++◌, length, replicate, slice_set, Option, Some, None, option_and_then, option_map, unwrap_or}
 use Rattle.std.specs.List.{slice_index_or}
 use Rattle.page_model.specs.Chains.{zero_rect}
 use Rattle.element_tree.specs.declared.container.Container.{Container}
@@ -38,10 +38,6 @@ with_sighting (Document document) s it = record it { views = slice_set (it.views
 abbrev pub HasRoom : Seen → Container → Type 0
 HasRoom it (Element node) = node.0 < length it.nodes
 HasRoom it (Document document) = document.0 < length it.views
-
-abbrev pub has_room : Seen → Container → Bool
-has_room it (Element node) = nat_lt node.0 (length it.nodes)
-has_room it (Document document) = nat_lt document.0 (length it.views)
 
 abbrev pub up_to : ℕ → List (Option Sighting) → List (Option Sighting)
 up_to number sightings = sightings ++ replicate (suc number - length sightings) None

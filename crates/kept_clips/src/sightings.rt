@@ -9,7 +9,7 @@ ghost use Rattle.kept_clips.specs.Chains.{IsExact};
 ghost use Rattle.clip_chain.specs.Scenes.{Scene};
 ghost use Rattle.kept_clips.specs.Scenes.{AgreesAt, IsSpotwise};
 ghost use Rattle.kept_clips.specs.Looked.{Looked, IsInRange};
-ghost use Rattle.kept_clips.specs.Seen.{sighting_of, scene_seen, sighting_in, with_sighting, with_room, up_to, HasRoom, has_room};
+ghost use Rattle.kept_clips.specs.Seen.{sighting_of, scene_seen, sighting_in, with_sighting, with_room, up_to, HasRoom};
 
 use crate::Clips;
 use clip_chain::Scrolls;
@@ -80,16 +80,6 @@ impl Sightings {
         Sightings {
             nodes: Vec::new(alloc),
             views: Vec::new(alloc),
-        }
-    }
-
-    /// Whether there is room for what is seen of a spot.
-    pub fn has_room(&self, of: Container) -> bool
-        ensures { result ≡ has_room self.now of }
-    {
-        match of {
-            Container::Element(node) => (node.0 as usize) < self.nodes.len(),
-            Container::Document(document) => (document.0 as usize) < self.views.len(),
         }
     }
 

@@ -101,13 +101,6 @@ impl KeptFindings {
         &self.clips
     }
 
-    /// What was found of registrations last.
-    pub fn index(&self) -> &Index
-        ensures { result.now ≡ self.now.kept }
-    {
-        &self.index
-    }
-
     /// Nothing was looked at yet, as an update begins.
     ///
     /// # Errors

@@ -268,7 +268,6 @@ fn see_many(rt: &impl Abort, timers: &mut Timers, batch: &mut Batch, x: Name) {
         );
     }
     assert_eq!(rt; timers.next(batch), None);
-    assert!(rt; !timers.is_there(DocumentId(0), x));
 }
 
 #[test]

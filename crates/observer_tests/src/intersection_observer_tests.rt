@@ -343,7 +343,6 @@ fn see_first(rt: &impl Abort, watchers: &Watchers, first: WatcherId)
     assert_eq!(rt; top_of(watchers, first, small_view()), -640);
     let half = Ratio { part: 1, whole: 2 };
     assert_eq!(rt; watchers.thresholds_of(first).index_of(half), 1);
-    assert!(rt; watchers.may_observe(first, NodeId(1)));
 }
 
 fn see_second(rt: &impl Abort, watchers: &Watchers, second: WatcherId)

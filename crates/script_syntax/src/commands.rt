@@ -239,14 +239,6 @@ impl CommandList {
     {
         self.commands.as_slice()
     }
-
-    /// Its commands, given back.
-    pub fn into_commands(self) -> Vec<Command>
-        ensures value { block_of result.items ≡ self }
-        ensures allowed { All IsAllowed result.items }
-    {
-        self.commands
-    }
 }
 
 /// A handler with its commands, the line that it begins on and that of its `end`.

@@ -32,13 +32,6 @@ impl MarginText {
     {
         self.bytes.as_slice()
     }
-
-    /// Its bytes, given back.
-    pub fn into_bytes(self) -> Vec<u8>
-        ensures { result.items ≡ self }
-    {
-        self.bytes
-    }
 }
 
 /// Numbers in ten-thousandths. A contract sees it as the list of them.
@@ -68,12 +61,5 @@ impl NumberList {
         ensures { result.now ≡ self.now }
     {
         self.numbers.as_slice()
-    }
-
-    /// Its numbers, given back.
-    pub fn into_numbers(self) -> Vec<i64>
-        ensures { result.items ≡ self }
-    {
-        self.numbers
     }
 }
