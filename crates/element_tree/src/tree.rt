@@ -1,5 +1,5 @@
 //! The tree: its calls, each said in terms of a plain list of nodes.
-ghost use Rattle.std.specs.Prelude.{◌≡◌, ℕ, ◌+◌, ◌<◌, ◌≤◌, ◌++◌, ◌∷◌, [], length, slice_get, option_map, Some, nat_lt, IfOk, OnOk, OnErr, IfErr, IsOk, IsErr, Err, ◌≢◌, MatchResult, None, true, false, not};
+ghost use Rattle.std.specs.Prelude.{◌≡◌, ℕ, ◌+◌, ◌<◌, ◌≤◌, ◌++◌, ◌∷◌, [], length, slice_get, option_map, Some, nat_lt, IfOk, OnOk, OnErr, IfErr, IsOk, IsErr, Err, ◌≢◌, MatchResult, None, true, false};
 ghost use Rattle.element_tree.specs.Forest.{IsForest, parent_of, children_of, siblings_of, first_of, last_of, next_of, previous_of, depth, height, is_ancestor, names, most_levels};
 ghost use Rattle.element_tree.specs.Edits.{inserted, removed, mark_of, lone, with_nodes};
 ghost use Rattle.element_tree.specs.Answers.{append_fault, insert_fault, too_deep, IsAddFault};

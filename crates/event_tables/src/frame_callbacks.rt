@@ -1,6 +1,6 @@
 //! Animation frame callbacks (HTML, animation frames).
 
-ghost use Rattle.std.specs.Prelude.{◌≡◌, ℕ, List, ◌+◌, ◌<◌, ◌≤◌, ◌-◌, ◌^◌, [], ◌==◌, false, find, filter, map, not, option_map, IfOk, OnOk, OnErr};
+ghost use Rattle.std.specs.Prelude.{◌≡◌, ℕ, List, ◌+◌, ◌<◌, ◌≤◌, ◌-◌, ◌^◌, [], ◌==◌, false, find, filter, map, option_map, IfOk, OnOk, OnErr};
 ghost use Rattle.std.specs.List.{list_any};
 ghost use Rattle.page_model.specs.World.{FrameCallback};
 ghost use Rattle.page_model.specs.FrameCallbacks.{is_frame_requested, with_frame_callback, without_frame_callback, frame_callbacks_of, frame_callback_stands, frame_callback_taken};

@@ -1,9 +1,9 @@
 //! Listeners, and the dispatch of an event to them (DOM, 2.7 and 2.9).
 
-ghost use Rattle.std.specs.Prelude.{◌≡◌, ◌≤◌, ◌+◌, ◌<◌, ◌-◌, ◌^◌, [], ◌∷◌, ◌==◌, false, find, filter, map, not, option_map, ◌&&◌, if◌then◌else◌, IfOk, OnErr, MatchOption};
+ghost use Rattle.std.specs.Prelude.{◌≡◌, ◌≤◌, ◌+◌, ◌<◌, ◌-◌, ◌^◌, [], ◌∷◌, ◌==◌, false, find, filter, map, option_map, ◌&&◌, if◌then◌else◌, IfOk, OnErr, MatchOption};
 ghost use Rattle.std.specs.List.{list_any};
 ghost use Rattle.page_model.specs.World.{Listener as ModelListener};
-ghost use Rattle.page_model.specs.Listeners.{is_same_target, is_same_event, hears, is_listener, is_listening, with_listener, without_listener, listeners_of, listener_stands};
+ghost use Rattle.page_model.specs.Listeners.{is_same_target, is_same_event, hears, is_listening, with_listener, without_listener, listeners_of, listener_stands};
 ghost use Rattle.event_tables.specs.Answers.{Adds};
 ghost use Rattle.event_tables.specs.Handed.{behind_first};
 ghost use Rattle.event_tables.specs.Seen.{seen_target, seen_key, seen_listener, seen_copy};

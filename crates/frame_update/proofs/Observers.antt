@@ -1,7 +1,7 @@
 -- The resize observers of a page stay in their order and in their documents while commands are run.
 use Rattle.std.proofs.Common.{◌≡◌, refl, ap, sym, subst, ◌∙◌, arith, ◌≤◌}
 use Rattle.std.proofs.lemmas.Option.{none-some, same_Some}
-use Rattle.std.specs.Prelude.{ℕ, zero, suc, ◌<◌, ◌==◌, Bool, true, false, cond, List, [], ◌∷◌, ◌++◌, length, filter, take, drop, Option, Some, None, ⊤}
+use Rattle.std.specs.Prelude.{ℕ, zero, suc, ◌<◌, ◌==◌, Bool, true, false, cond, List, [], ◌∷◌, ◌++◌, length, filter, take, drop, Option, Some, ⊤}
 use Rattle.std.specs.List.{AllByRecursion}
 use Rattle.script_model.specs.Syntax.{Action}
 use Rattle.page_model.specs.World.{Thing, Observation, ResizeObserver, ResizeObservers, World}

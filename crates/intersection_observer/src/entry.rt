@@ -1,7 +1,7 @@
 //! What is found of a target, and the entries that tell it.
 
-ghost use Rattle.std.specs.Prelude.{◌≡◌, map};
-ghost use Rattle.intersection_observer.specs.Seen.{seen_entry, seen_entries};
+ghost use Rattle.std.specs.Prelude.{◌≡◌};
+ghost use Rattle.intersection_observer.specs.Seen.{seen_entries};
 
 use element_tree::NodeId;
 use px_units::Rect;

@@ -1,7 +1,7 @@
 //! Laws of the definitions, each the clause of a function that does nothing.
 
 ghost use Rattle.std.specs.Prelude.{◌≡◌, ℕ, List, false};
-ghost use Rattle.page_model.specs.World.{Finding, Registration, IntersectionObserver, IntersectionObservers};
+ghost use Rattle.page_model.specs.World.{Finding, IntersectionObserver, IntersectionObservers};
 ghost use Rattle.page_model.specs.Lookups.{intersection_observer_at, change_intersection_observer};
 ghost use Rattle.page_model.specs.Intersections.{settled_observer, settling};
 ghost use Rattle.intersection_observer.specs.Serials.{HasSerials, registrations_at};

@@ -1,6 +1,6 @@
 //! The observers of a page.
 
-ghost use Rattle.std.specs.Prelude.{◌≡◌, ◌<◌, ◌≤◌, ◌+◌, ◌-◌, All, ◌^◌, false, true, [], length, map, not, option_map, Ok, Err, IfOk, OnOk, OnErr, IfSome, Some, None};
+ghost use Rattle.std.specs.Prelude.{◌≡◌, ◌<◌, ◌≤◌, ◌+◌, ◌-◌, All, ◌^◌, true, [], length, map, not, option_map, Ok, Err, IfOk, OnOk, OnErr, IfSome, Some, None};
 ghost use Rattle.page_model.specs.World.{Registration};
 ghost use Rattle.page_model.specs.IntersectionObserving.{is_registered, with_intersection_observer, without_registration, without_registrations, without_queue};
 ghost use Rattle.intersection_observer.specs.Seen.{seen_root, seen_finding, serial_numbers};

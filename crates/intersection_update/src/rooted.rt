@@ -1,6 +1,6 @@
 //! Which observers are looked at with a document.
 
-ghost use Rattle.std.specs.Prelude.{◌≡◌, ◌<◌, ℕ, All, IfOk, length};
+ghost use Rattle.std.specs.Prelude.{◌≡◌, ◌<◌, All, IfOk, length};
 ghost use Rattle.page_model.specs.Documents.{is_number, tree_document};
 ghost use Rattle.page_model.specs.Intersections.{is_rooted_in, watchers as numbers_of};
 ghost use Rattle.intersection_observer.specs.Seen.{seen_root};

@@ -1,5 +1,5 @@
 -- What was seen last of each spot: what it stood in, what it clipped to, its box, and whether it was a scroll container.
-use Rattle.std.specs.Prelude.{ℕ, suc, ◌<◌, ◌-◌, Bool, false, List, ◌++◌, length, replicate, slice_set, Option, Some, None, option_and_then, option_map, unwrap_or}
+use Rattle.std.specs.Prelude.{ℕ, suc, ◌<◌, ◌-◌, false, List, ◌++◌, length, replicate, slice_set, Option, Some, None, option_and_then, option_map, unwrap_or}
 use Rattle.std.specs.List.{slice_index_or}
 use Rattle.page_model.specs.Chains.{zero_rect}
 use Rattle.element_tree.specs.declared.container.Container.{Container}

@@ -1,6 +1,6 @@
 //! Kept boxes.
 
-ghost use Rattle.std.specs.Prelude.{◌≡◌, ◌+◌, ◌<◌, ◌≤◌, ◌||◌, ℕ, Bool, true, false, Option, Some, None, [], length, option_map, OnOk, OnErr};
+ghost use Rattle.std.specs.Prelude.{◌≡◌, ◌+◌, ◌<◌, ◌≤◌, ◌||◌, ℕ, Bool, true, false, Option, Some, None, [], length, OnOk, OnErr};
 ghost use Rattle.layout_model.specs.Nodes.{is_in_path};
 ghost use Rattle.layout_model.specs.Boxes.{Inputs as InputsModel, box_in, inputs_in};
 ghost use Rattle.element_tree.specs.Forest.{parent_of};
@@ -9,7 +9,7 @@ ghost use Rattle.block_layout.specs.Trees.{layout_tree};
 ghost use Rattle.kept_layout.specs.Due.{is_due, due_count};
 ghost use Rattle.kept_layout.specs.Fresh.{IsFresh};
 ghost use Rattle.kept_layout.specs.Slots.{slot_in, with_slot, held_in, marked_if};
-ghost use Rattle.kept_layout.specs.Sound.{HasSlots, IsReady, IsSound, IsSoundBut};
+ghost use Rattle.kept_layout.specs.Sound.{IsReady, IsSoundBut};
 ghost use Rattle.kept_layout.specs.Sizes.{size_held};
 
 use crate::slots::{Slot, slot_of};

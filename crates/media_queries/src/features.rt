@@ -2,7 +2,7 @@
 
 ghost use Rattle.std.specs.Prelude.{◌≡◌};
 ghost use Rattle.script_model.specs.Media.{dimension_at, sized_at, bounded_at, oriented_at, tested_at, feature_at};
-ghost use Rattle.media_queries.specs.Seen.{comparison_of, sized_of, orientation_of, feature_of, read_of};
+ghost use Rattle.media_queries.specs.Seen.{comparison_of, sized_of, feature_of, read_of};
 
 use crate::bytes::{Stopped, byte_at, colon_at, skip, word_at};
 use crate::lengths::length_at;

@@ -1,7 +1,7 @@
 //! A map from numbers to values, seen as the finite map that it is.
 #![tactic(auto)]
 
-ghost use Rattle.std.specs.Prelude.{◌≡◌, true, OnOk, OnErr, IsTrue, IsOk};
+ghost use Rattle.std.specs.Prelude.{◌≡◌, true, OnOk, OnErr, IsOk};
 ghost use Rattle.std.specs.FinMap as finite;
 
 use indexmap::IndexMap;

@@ -1,13 +1,13 @@
 //! The documents of a page.
 
-ghost use Rattle.std.specs.Prelude.{◌≡◌, ◌≢◌, ℕ, Option, ◌<◌, ◌≤◌, ◌+◌, ◌++◌, ◌∷◌, [], length, option_map, Some, None, IfOk, not, IsSome, false, true, nat_lt};
+ghost use Rattle.std.specs.Prelude.{◌≡◌, ◌≢◌, ℕ, Option, ◌<◌, ◌≤◌, ◌+◌, ◌++◌, ◌∷◌, [], length, option_map, Some, None, IfOk, not, IsSome, false, true};
 ghost use Rattle.smallvec.specs.SmallVec.{small_vec_len};
 ghost use Rattle.element_tree.specs.Documents.{document_number, document_numbers};
 ghost use Rattle.element_tree.specs.Links.{number};
 ghost use Rattle.page_model.specs.World.{Active, Dead, Tree as TreeModel, Container};
-ghost use Rattle.page_model.specs.Lookups.{change_at, change_each, entry_or, no_document};
+ghost use Rattle.page_model.specs.Lookups.{change_each, entry_or, no_document};
 ghost use Rattle.page_model.specs.Edits.{new_document};
-ghost use Rattle.page_model.specs.Documents.{document_of_container, is_active_state, documents_inside, active_documents, adopted, shown, first_of_list, is_active, tree_document};
+ghost use Rattle.page_model.specs.Documents.{document_of_container, documents_inside, active_documents, adopted, shown, first_of_list, is_active, tree_document};
 ghost use Rattle.page_documents.specs.States.{seen_state, is_in, put_in};
 ghost use Rattle.page_documents.specs.Seen.{seen_tree};
 ghost use Rattle.page_documents.specs.Held.{has_room, changing, ending, opening};

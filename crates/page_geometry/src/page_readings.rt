@@ -5,7 +5,6 @@ ghost use Rattle.px_units.specs.Rects.{InReach, RectInReach};
 ghost use Rattle.px_units.specs.declared.BoxKind.TheVariants.{Border};
 ghost use Rattle.script_model.specs.TraceLines.{ReadLine};
 ghost use Rattle.page_model.specs.World.{Name};
-ghost use Rattle.page_model.specs.Lookups.{element_at};
 ghost use Rattle.page_model.specs.Chains.{padding_box_at, content_corner_at};
 ghost use Rattle.page_model.specs.PageBoxes.{pair_of};
 ghost use Rattle.page_model.specs.Readings.{point_at, rect_of, reading_of};

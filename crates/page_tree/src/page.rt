@@ -2,7 +2,6 @@
 
 ghost use Rattle.std.specs.Prelude.{◌≡◌, ◌+◌, ◌<◌, ◌≤◌, ◌++◌, ◌∷◌, [], not, length, option_map, unsigned_abs, Some, None, Ok, Err, IfOk, IfErr, IfSome, OnOk, OnErr, MatchResult, true};
 ghost use Rattle.std.specs.Option.{ForSome};
-ghost use Rattle.px_units.specs.Lengths.{Pixels};
 ghost use Rattle.text_io.specs.Limits.{limit_number};
 ghost use Rattle.text_io.specs.declared.kinds.LimitKind.TheVariants as limits;
 ghost use Rattle.style_values.specs.Ranges.{IsAllowed, IsUnits};
@@ -13,7 +12,7 @@ ghost use Rattle.page_model.specs.World.{InElement, InDocument};
 ghost use Rattle.page_model.specs.Lookups.{element_at};
 ghost use Rattle.page_model.specs.Outcome.{opening_world};
 ghost use Rattle.page_model.specs.Documents.{removed};
-ghost use Rattle.page_model.specs.Steps.{Did, Met, Threw};
+ghost use Rattle.page_model.specs.Steps.{Did, Threw};
 ghost use Rattle.page_model.specs.Edits.{with_element, with_frame, with_declaration, set_dimension, pixels_of, dimension_of, grown as grown_by};
 ghost use Rattle.page_model.specs.Commands.{placing, growing, loading};
 ghost use Rattle.block_layout.specs.Seen.{seen_kind};

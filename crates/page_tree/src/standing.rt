@@ -3,7 +3,7 @@
 ghost use Rattle.std.specs.Prelude.{◌≡◌, ◌<◌, length, option_map, IfSome};
 ghost use Rattle.element_tree.specs.Links.{number};
 ghost use Rattle.page_model.specs.World.{InDocument};
-ghost use Rattle.page_model.specs.Lookups.{element_at, document_at, is_same_container};
+ghost use Rattle.page_model.specs.Lookups.{element_at, document_at};
 ghost use Rattle.page_model.specs.Documents.{is_number, is_root_element, container_of, stands_in_active, removed};
 ghost use Rattle.page_model.specs.Commands.{is_container_of, is_no_child};
 ghost use Rattle.page_documents.specs.Seen.{seen_tree};

@@ -1,6 +1,6 @@
 //! Where the observers of each document are found.
 
-ghost use Rattle.std.specs.Prelude.{◌≡◌, ◌≤◌, [], ◌∷◌, ◌++◌, List, length, nat_eq, option_map, unwrap_or, IfSome, OnOk, OnErr};
+ghost use Rattle.std.specs.Prelude.{◌≡◌, ◌≤◌, [], ◌∷◌, ◌++◌, List, length, nat_eq, unwrap_or, OnOk, OnErr};
 ghost use Rattle.std.specs.HashMap.{get};
 ghost use Rattle.page_model.specs.World.{ResizeObserver};
 ghost use Rattle.resize_observer.specs.Documents.{Tells, same_key};

@@ -1,6 +1,6 @@
 //! The observers of a page.
 
-ghost use Rattle.std.specs.Prelude.{◌≡◌, ◌<◌, ◌-◌, ◌^◌, false, [], All, length, not, option_map, IfOk, OnOk, OnErr, IfSome};
+ghost use Rattle.std.specs.Prelude.{◌≡◌, ◌<◌, ◌-◌, ◌^◌, [], All, length, not, option_map, IfOk, OnOk, OnErr, IfSome};
 ghost use Rattle.page_model.specs.ResizeObserving.{with_resize_observer, with_resize_target, without_resize_target, without_resize_targets};
 ghost use Rattle.resize_observer.specs.Answers.{Enters};
 ghost use Rattle.resize_observer.specs.Observations.{IsSize, HasSize, seen_size, seen_observations};
@@ -43,7 +43,7 @@ pub struct Observers {
 }
 
 impl Model for Observers {
-    ghost use Rattle.std.specs.Prelude.{◌≡◌, ◌≤◌, length, sum_by};
+    ghost use Rattle.std.specs.Prelude.{◌≡◌, ◌≤◌, length};
     ghost use Rattle.resize_observer.specs.Observers.{HeldObservers};
 
     ghost Value = { HeldObservers };

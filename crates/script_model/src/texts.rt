@@ -3,12 +3,11 @@
 #![tactic(auto, unfolding(crate::specs::Media::query_list, crate::specs::Media::matches, crate::specs::MarginText::margins_of, crate::specs::MarginText::thresholds_of, crate::specs::TraceText::line_text, crate::specs::Summary::summary_text, crate::specs::Generator::head_lines, crate::specs::Generator::card_lines, crate::specs::Generator::generated_lines, crate::specs::Reading::reading, crate::specs::Scripts::command_count, crate::specs::Scripts::handler_number))]
 
 ghost use Rattle.std.specs.Prelude.{◌≡◌, true, false, [], ◌∷◌, ◌++◌, Ok, Err, Some, None, IsOkAnd, pos, negsuc, length, slice_get, codes};
-ghost use Rattle.layout_model.specs.Styles.{Sides};
-ghost use Rattle.script_model.specs.Queries.{Exactly, AtLeast, AtMost, WidthFeature, HeightFeature, OrientationFeature, AllMedia, ScreenMedia, PrintMedia, NoPrefix, NotPrefix, OnlyPrefix, Typed, NotFeature, AllFeatures, AnyFeatures};
+ghost use Rattle.script_model.specs.Queries.{Exactly, AtLeast, AtMost, WidthFeature, HeightFeature, OrientationFeature, ScreenMedia, OnlyPrefix, Typed, NotFeature, AnyFeatures};
 ghost use Rattle.script_model.specs.Margins.{MarginPixels, MarginPercentage};
 ghost use Rattle.text_io.specs.declared.kinds.ThrowKind.TheVariants.{HierarchyRequestError};
 ghost use Rattle.text_io.specs.declared.kinds.LimitKind.TheVariants as limits;
-ghost use Rattle.script_model.specs.TraceLines.{FiredChange, FiredError, TickLine, EventLine, ResizeLine, IntersectLine, ThrowLine, LimitLine, SyntaxLine};
+ghost use Rattle.script_model.specs.TraceLines.{FiredChange, FiredError, TickLine, EventLine, ResizeLine, IntersectLine, ThrowLine, LimitLine};
 ghost use Rattle.script_model.specs.Media.{query_list, matches};
 ghost use Rattle.script_model.specs.MarginText.{margins_of, thresholds_of};
 ghost use Rattle.script_model.specs.TraceText.{line_text};

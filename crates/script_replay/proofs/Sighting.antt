@@ -1,5 +1,5 @@
 -- What is told of a page as a tick ends.
-use Rattle.std.proofs.Common.{◌≡◌, ◌∙◌, ℕ, ◌-◌, ◌<◌, ◌≤◌, true, false, cond, nat_lt, ◌==◌, List, [], ◌∷◌, ◌++◌, codes, flat_map, length, map, take, Result, IfOk, refl, ap, sym, subst, arith, tests}
+use Rattle.std.proofs.Common.{◌≡◌, ◌∙◌, ℕ, ◌-◌, ◌≤◌, true, false, cond, nat_lt, ◌==◌, List, [], ◌∷◌, ◌++◌, codes, flat_map, length, map, take, Result, IfOk, refl, ap, sym, subst, arith, tests}
 use Rattle.std.proofs.lemmas.Bool.{eqb-true}
 use Rattle.std.proofs.lemmas.List.{append_assoc, take_all}
 use Rattle.word_model.specs.Numbers.{decimal}

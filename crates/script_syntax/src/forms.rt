@@ -1,7 +1,7 @@
 //! The forms of a line's parts, one function a form. Each takes its words, and fails at the first one that doesn't fit.
 
-ghost use Rattle.std.specs.Prelude.{◌≡◌, unsigned_abs, option_map, IfOk, is_some, bytes_eq};
-ghost use Rattle.script_model.specs.Forms.{part_as, declaration_as, margin_as, numbers_as, query_as, NameForm, NodeForm, AimForm, HandlerForm, RootForm, LengthForm, SignedForm, PercentForm, WholeForm, EventForm, BoxForm, DimensionForm, DeclarationForm, JustForm, MarginForm, NumbersForm, QueryForm};
+ghost use Rattle.std.specs.Prelude.{◌≡◌, unsigned_abs, option_map, IfOk, is_some};
+ghost use Rattle.script_model.specs.Forms.{part_as, declaration_as, NameForm, NodeForm, AimForm, HandlerForm, RootForm, LengthForm, SignedForm, PercentForm, WholeForm, EventForm, BoxForm, DimensionForm, DeclarationForm, JustForm};
 ghost use Rattle.script_model.specs.Words.{node_of, aim_of as aim_read};
 ghost use Rattle.script_model.specs.Properties.{property_of};
 ghost use Rattle.style_values.specs.Ranges.{IsAllowed};

@@ -1,6 +1,6 @@
 //! Where the handlers of a script are.
 
-ghost use Rattle.std.specs.Prelude.{map, take, IfOk, bytes_eq};
+ghost use Rattle.std.specs.Prelude.{map, IfOk, bytes_eq};
 ghost use Rattle.indexmap.specs.IndexMap.{get};
 ghost use Rattle.script_syntax.specs.Indexes.{Indexed, Noted};
 ghost use Rattle.script_syntax.specs.Seen.{item_of};

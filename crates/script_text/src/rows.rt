@@ -1,7 +1,7 @@
 //! The printed texts of chosen scripts. Each function does nothing; its clauses are computed.
 #![tactic(auto, unfolding(crate::specs::ScriptText::printed, crate::specs::NumberText::signed_text, crate::specs::NumberText::percent_text, crate::specs::NumberText::signed_percent_text, crate::specs::NumberText::number_text, media_queries::specs::LengthText::length_text, media_queries::specs::QueryText::list_text))]
 
-ghost use Rattle.std.specs.Prelude.{◌≡◌, ℕ, [], ◌∷◌, true, false, None, Some, pos, negsuc, codes};
+ghost use Rattle.std.specs.Prelude.{◌≡◌, [], ◌∷◌, true, None, Some, pos, negsuc, codes};
 ghost use Rattle.px_units.specs.Lengths.{Pixels, Percentage, InsetPixels, InsetPercentage};
 ghost use Rattle.px_units.specs.declared.BoxKind.TheVariants.{Device};
 ghost use Rattle.text_io.specs.declared.kinds.Version.TheVariants.{First, Second};

@@ -2,7 +2,6 @@
 
 ghost use Rattle.std.specs.Prelude.{◌≡◌, ◌<◌, map, vec_len, vec_capacity, OnOk, IsOk};
 ghost use Rattle.page_model.specs.Lookups.{no_extent, entry_or, put_at};
-ghost use Rattle.page_model.specs.Edits.{kept_within};
 ghost use Rattle.scrolling.specs.Positions.{seen_position};
 
 use std::alloc::AllocError;

@@ -1,5 +1,5 @@
 -- A script without items is that of a text.
-use Rattle.std.proofs.Common.{◌≡◌, ℕ, ◌≤◌, [], lit≤}
+use Rattle.std.proofs.Common.{◌≡◌, ◌≤◌, [], lit≤}
 use Rattle.std.specs.Prelude.{Ok}
 use Rattle.text_io.specs.declared.kinds.Version.TheVariants.{First}
 use Rattle.script_model.specs.Syntax.{Script}

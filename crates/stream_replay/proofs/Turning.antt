@@ -1,5 +1,5 @@
 -- The turn of a page at one of its lines.
-use Rattle.std.proofs.Common.{◌≡◌, ◌∙◌, refl, sym, ap, subst, ℕ, zero, suc, ◌+◌, ◌<◌, Bool, true, false, cond, List, [], ◌∷◌, ◌++◌, length, map, drop, get_or, Option, arith}
+use Rattle.std.proofs.Common.{◌≡◌, ◌∙◌, refl, sym, ap, subst, ℕ, zero, suc, ◌+◌, ◌<◌, true, false, cond, List, [], ◌∷◌, length, map, drop, get_or, Option, arith}
 use Rattle.std.specs.Prelude.{◌==◌, Some, None, slice_get}
 use Rattle.std.proofs.lemmas.Bool.{false≢true}
 use Rattle.text_io.specs.declared.kinds.LimitKind.{LimitKind}
@@ -16,7 +16,7 @@ use Rattle.page_model.specs.Runs.{Said}
 use Rattle.trace_runs.specs.Runs as Run
 use Rattle.trace_runs.specs.Writes.{Says}
 use Rattle.trace_summary.specs.Counts.{IsTrace}
-use Rattle.stream_runs.specs.PageRuns.{Standing, Going as GoesOn, Over, Turn, passed, stands_by, went_on, item_line, turn_at}
+use Rattle.stream_runs.specs.PageRuns.{Going as GoesOn, Over, Turn, passed, stands_by, went_on, item_line, turn_at}
 use Rattle.stream_replay.specs.StreamPages.{seen_standing, item_begins, begins}
 use Rattle.stream_replay.specs.declared.stream_page.Progress.{Progress}
 use Rattle.stream_replay.specs.declared.stream_page.Progress.TheVariants.{Going, Faulty, LimitMet}

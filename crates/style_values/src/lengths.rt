@@ -2,7 +2,7 @@
 
 ghost use Rattle.std.specs.Prelude.{◌≡◌, ◌≤◌, ◌≤ℤ◌, pos, neg_ℤ, option_map, unsigned_abs, IfSome};
 ghost use Rattle.word_model.specs.Numbers.{length_of};
-ghost use Rattle.px_units.specs.Lengths.{Pixels, Percentage, InsetPixels, InsetPercentage, seen_length, seen_inset};
+ghost use Rattle.px_units.specs.Lengths.{Percentage, InsetPixels, InsetPercentage, seen_length, seen_inset};
 ghost use Rattle.script_model.specs.Properties.{size_of, auto_or_size_of, none_or_size_of, inset_of};
 ghost use Rattle.style_values.specs.Ranges.{IsUnits, IsSize, IsAutoOrSize, IsNoneOrSize, IsInset};
 

@@ -1,6 +1,6 @@
 //! The texts of lines.
 
-ghost use Rattle.std.specs.Prelude.{◌≡◌, List, [], ◌∷◌, ◌++◌, OnOk, OnErr, Some, IfSome, codes};
+ghost use Rattle.std.specs.Prelude.{◌≡◌, [], ◌∷◌, ◌++◌, OnOk, OnErr, Some, IfSome, codes};
 ghost use Rattle.word_model.specs.Numbers.{decimal};
 ghost use Rattle.px_units.specs.Texts.{sign_text, pixel_text};
 ghost use Rattle.text_io.specs.Kinds.{limit_word, throw_word};

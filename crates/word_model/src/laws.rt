@@ -1,7 +1,7 @@
 //! Laws of the definitions, each the clause of a function that does nothing.
 
 ghost use Rattle.std.specs.Prelude.{◌≡◌, ℕ, ◌≤◌, List, negsuc, codes, true};
-ghost use Rattle.word_model.specs.Numbers.{decimal, whole_of, length_of, signed_of, percent_of, signed_percent_of, number_of, is_decimal_with, spelled, begins_with, unsigned, leading_digits, fraction_digits, unit_of};
+ghost use Rattle.word_model.specs.Numbers.{decimal, whole_of, length_of, signed_of, signed_percent_of, number_of, is_decimal_with, spelled, begins_with, unsigned, leading_digits, fraction_digits, unit_of};
 
 /// A number in decimal reads as itself.
 #[tactic(auto, using(crate::proofs::RoundTrip::reads_back))]

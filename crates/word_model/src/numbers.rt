@@ -1,4 +1,4 @@
-ghost use Rattle.std.specs.Prelude.{◌≡◌, ◌+◌, ◌-◌, ◌*◌, ◌/◌, ◌^◌, ◌<◌, ◌≤◌, ◌≤ℤ◌, pos, negsuc, neg_ℤ, length, IfSome, IsTrue, if◌then◌else◌, bytes_eq};
+ghost use Rattle.std.specs.Prelude.{◌≡◌, ◌+◌, ◌-◌, ◌*◌, ◌/◌, ◌^◌, ◌<◌, ◌≤◌, ◌≤ℤ◌, pos, negsuc, neg_ℤ, length, IfSome, IsTrue, if◌then◌else◌};
 ghost use Rattle.std.specs.List.{list_all};
 ghost use Rattle.word_model.specs.Names.{is_digit};
 ghost use Rattle.word_model.specs.Numbers.{at_most, digits_value, leading_digits, fraction_digits, scaled, has_form, form_of, is_decimal_with, with_sign, is_whole, whole_of, length_of, percent_of, signed_of, signed_percent_of, number_of};

@@ -1,4 +1,4 @@
-use Rattle.std.proofs.Common.{◌∙◌, ap, sym, true, ◌≡◌}
+use Rattle.std.proofs.Common.{◌∙◌, ap}
 use Rattle.std.specs.FinMap.{insert, contains_key}
 use Rattle.number_map.proofs.Entries.{inserted, absent}
 use Rattle.number_map.proofs.NumberMap.insert.Goals as goal

@@ -1,4 +1,4 @@
-use Rattle.std.proofs.Common.{◌∙◌, ◌<◌, ◌≤◌, ap, length, arith, rules}
+use Rattle.std.proofs.Common.{◌<◌, ◌≤◌, ap, length, arith, rules}
 use Rattle.std.specs.Prelude.{Ok, Err}
 use Rattle.trace_summary.proofs.Splits.{behind_shorter}
 use Rattle.stream_replay.proofs.NamedLines.{named_lines, named_begun, named_more, named_cut, named_end, named_wrote}

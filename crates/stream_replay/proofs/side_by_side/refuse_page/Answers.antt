@@ -1,4 +1,4 @@
-use Rattle.std.proofs.Common.{◌≡◌, ◌∙◌, ap, sym, subst, List, ℕ, [], ◌∷◌}
+use Rattle.std.proofs.Common.{◌≡◌, ap, sym, subst, List, ℕ, [], ◌∷◌}
 use Rattle.std.specs.Prelude.{Err}
 use Rattle.trace_runs.specs.declared.faults.RunFault.{RunFault}
 use Rattle.trace_runs.specs.declared.faults.RunFault.TheVariants.{Memory}

@@ -1,4 +1,4 @@
-use Rattle.std.proofs.Common.{◌≡◌, ◌∙◌, refl, sym, ap, ℕ, ◌<◌, List, length, arith, rules}
+use Rattle.std.proofs.Common.{◌≡◌, ap, ◌<◌, length, arith, rules}
 use Rattle.std.specs.Prelude.{Some, slice_get}
 use Rattle.script_syntax.specs.Seen.{item_of}
 use Rattle.trace_summary.specs.Gathered.{Gathered}

@@ -1,4 +1,4 @@
-use Rattle.std.proofs.Common.{◌∙◌, subst, sym}
+use Rattle.std.proofs.Common.{subst, sym}
 use Rattle.script_source.specs.Recorded.{Divided, IsDivided}
 use Rattle.script_source.proofs.Pieces.{ends_in_trace, ends_within, on_ok}
 use Rattle.script_source.proofs.recorded.RecordedText.end.Goals as goal

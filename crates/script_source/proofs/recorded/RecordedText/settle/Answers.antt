@@ -1,4 +1,4 @@
-use Rattle.std.proofs.Common.{◌∙◌, subst, sym}
+use Rattle.std.proofs.Common.{subst, sym}
 use Rattle.script_source.specs.Recorded.{Divided, Divides}
 use Rattle.script_source.proofs.Pieces.{on_ok, trace_goes_on}
 use Rattle.script_source.proofs.recorded.RecordedText.settle.Goals as goal
