@@ -55,7 +55,7 @@ module _ {A B : Type 0} (seen : A → B) where
   pub read_of : (test : B → Bool) (it : Bounded A) (now : Bounded B) (read : List A) → read ≡ it.part.held → seen_table seen it ≡ now → filter test (map seen read) ≡ filter test (now.part.held)
   read_of test it now read same view = ap (λ these. filter test (map seen these)) same ∙ ap (λ (these : Bounded B). filter test (these.part.held)) view
 
-  pub room_of : (it : Bounded A) (now : Bounded B) → seen_table seen it ≡ now → has_room it ≡ has_room now
+  room_of : (it : Bounded A) (now : Bounded B) → seen_table seen it ≡ now → has_room it ≡ has_room now
   room_of it now view = ap (λ count. nat_lt count (it.most)) (sym (length-map (it.part.held) seen)) ∙ ap has_room view
 
   pub enters_of : (test : B → Bool) (it : Bounded A) (now : Bounded B) (result : Result (Unit {0}) TableFault) → Enters result (list_any (λ x. test (seen x)) (it.part.held)) (has_room it) → seen_table seen it ≡ now → Enters result (list_any test (now.part.held)) (has_room now)
