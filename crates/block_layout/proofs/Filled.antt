@@ -40,13 +40,6 @@ pub record Filled (at : ℕ → Node) (below : Option Inputs) (children left : L
   pub steps : now + sum_by (child_steps at below) left ≡ first + sum_by (child_steps at below) children
 
 module _ (at : ℕ → Node) (below : Option Inputs) (children : List ℕ) where
-  pub filled_begin : (left : List ℕ) (steps : ℕ) → left ≡ children → Filled at below children left 0 steps steps
-  filled_begin left steps whole = record {
-    capped = omega arith;
-    heights = ap (λ xs. cap (0 + sum_by (child_height at below) xs)) whole ∙ ap cap (omega arith);
-    steps = ap (λ xs. steps + sum_by (child_steps at below) xs) whole;
-  }
-
   pub filled_on : (left more : List ℕ) (c inside first now : ℕ) → left ≡ c ∷ more → Filled at below children left inside first now
       → (sum steps : ℕ) → sum ≡ cap (inside + child_height at below c) → steps ≡ now + child_steps at below c → Filled at below children more sum first steps
   filled_on left more c inside first now step filled sum steps is paid =
@@ -144,9 +137,6 @@ module _ (at : ℕ → Node) where
 -- the boxes in the children that were passed are held
 abbrev pub AreHeld : (ℕ → Node) → List ℕ → List ℕ → (ℕ → Option Box) → (ℕ → Option Box) → ℕ → Type 0
 AreHeld at children left held wanted count = (c : ℕ) → has children c ≡ true → has left c ≡ false → (n : ℕ) → is_in_path at c n ≡ true → n < count → held n ≡ wanted n
-
-pub held_begin : (at : ℕ → Node) (children left : List ℕ) (held wanted : ℕ → Option Box) (count : ℕ) → left ≡ children → AreHeld at children left held wanted count
-held_begin at children left held wanted count whole c kid gone = absurd (false≢true (sym (ap (λ xs. has xs c) (sym whole) ∙ gone) ∙ kid))
 
 module _ (at : ℕ → Node) (children left more : List ℕ) (child : ℕ) (step : left ≡ child ∷ more) (old new wanted : ℕ → Option Box) (count : ℕ)
     (held : AreHeld at children left old wanted count)

@@ -1,13 +1,13 @@
 -- The parts of a box, and of the inputs that a box hands down.
-use Rattle.std.proofs.Common.{◌≡◌, ◌≤◌, ℕ, ℤ, pos, arith, Bool, true, false, cond, Option, Some, None, option_map, refl, ap, sym, ◌∙◌}
+use Rattle.std.proofs.Common.{◌≡◌, ◌≤◌, ℕ, ℤ, pos, arith, Bool, true, false, cond, Option, Some, None, option_map, refl, ap, ◌∙◌}
 use Rattle.std.proofs.lemmas.Int.{to_z_pos}
-use Rattle.std.specs.Prelude.{unsigned_abs, is_some, ◌||◌}
+use Rattle.std.specs.Prelude.{unsigned_abs}
 use mir.Val.{of_z, to_z}
 use mir.Syntax.{w64}
 use Rattle.px_units.specs.Lengths.{cap}
 use Rattle.layout_model.specs.Styles.{Style, Sides}
 use Rattle.layout_model.specs.Items.{Item, Kind}
-use Rattle.layout_model.specs.Boxes.{Inputs, Box, computed, child_inputs, box_with, used_width, used_height, used_side, used_insets, on_sides, against, is_stretched, has_definite_height, inputs_inside}
+use Rattle.layout_model.specs.Boxes.{Inputs, Box, computed, child_inputs, box_with, used_width, used_height, used_side, on_sides, has_definite_height, inputs_inside}
 
 module _ (item : Item) (inputs : Inputs) (inside : ℕ) where
   pub box_is : (width height : ℕ) (margin border padding : Sides ℕ)
@@ -27,11 +27,6 @@ pub inputs_are : (item : Item) (inputs : Inputs) (box : Box) → box ≡ compute
     → record { width = box.width; height = cond (has_definite_height item inputs) (Some (box.height)) None; flow = true } ≡ child_inputs item inputs
 unfolding child_inputs
 inputs_are item inputs box is = ap (inputs_inside item inputs) is
-
-pub definite_is : (item : Item) (style : Style) (inputs : Inputs) → item.style ≡ style
-    → (is_some (against (style.height) (inputs.height)) || is_stretched inputs (used_insets (style.inset) inputs)) ≡ has_definite_height item inputs
-definite_is item style inputs is =
-    sym (ap (λ s. is_some (against (s.height) (inputs.height)) || is_stretched inputs (used_insets (s.inset) inputs)) is)
 
 pub item_same : (style other : Style) (kind like : Kind) → style ≡ other → kind ≡ like → ◌≡◌ {A = Item} (record { style = style; kind = kind }) (record { style = other; kind = like })
 item_same style other kind like first second =

@@ -92,9 +92,6 @@ module _ (at : ℕ → Node) (linked : IsLinked at) (shallow : IsShallow at) (vi
     abbrev within : Inputs
     within = child_inputs ((at d).item) inputs
 
-    pub far_within : ℕ × ℕ
-    far_within = far_in at d inputs (corner d) (kids_of (at d))
-
     module _ (c : ℕ) (kid : Contains (kids_of (at d)) c) where
       pub kid_up : (at c).parent ≡ Some d
       kid_up = linked d c (kid_is_child ((at d).item.kind) ((at d).children) c kid)

@@ -9,7 +9,7 @@ use Rattle.element_tree.specs.declared.container.Container.TheVariants.{Element,
 use Rattle.clip_chain.specs.Scenes.{Scene, is_spot, through, root_bounds}
 use Rattle.thresholds.specs.Roots.{IsRootRect}
 use Rattle.clip_chain.specs.Ranges.{IsClip}
-use Rattle.clip_chain.specs.Chains.{Leads, IsAbove}
+use Rattle.clip_chain.specs.Chains.{Leads}
 
 pub is_itself : (spot : Container) → is_spot spot spot ≡ true
 is_itself (Element a) = eq-eqb a.0 a.0 refl
@@ -42,12 +42,6 @@ module _ (scene : Scene) (margins : Margins) (seen_from : Container) where
   pub leads_back : (from root : Container) (between : List Container) → Leads (through seen_from margins scene) from between root → Leads scene from between root
   leads_back from root [] lead = lead
   leads_back from root (next ∷ between) lead = (lead.0, lead.1, leads_back next root between lead.2)
-
-  pub above_through : (from root : Container) → IsAbove scene root from → IsAbove (through seen_from margins scene) root from
-  above_through from root above = (above.0, leads_through from root above.0 above.1)
-
-  pub above_back : (from root : Container) → IsAbove (through seen_from margins scene) root from → IsAbove scene root from
-  above_back from root above = (above.0, leads_back from root above.0 above.1)
 
 -- what margins move is in the range of what they move
 pub root_range : (clip : Rect) → IsClip clip → IsRootRect clip

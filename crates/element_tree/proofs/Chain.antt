@@ -14,10 +14,6 @@ module _ (t u : ℕ → Links) (same : (m : ℕ) → t m ≡ u m) where
   pub put_same : (k : ℕ) (a b : Links) → a ≡ b → (m : ℕ) → put t k a m ≡ put u k b m
   put_same k a b e m = cond_both_same (nat_eq m k) e (same m)
 
-  pub following_same : (p : ℕ) (q x : Option NodeId) (m : ℕ) → following t p q x m ≡ following u p q x m
-  following_same p None x m = put_same p _ _ (ap (λ (l : Links). record l { first = x }) (same p)) m
-  following_same p (Some q) x m = put_same (q.0) _ _ (ap (λ (l : Links). record l { next = x }) (same (q.0))) m
-
   pub leading_same : (p : ℕ) (q x : Option NodeId) (m : ℕ) → leading t p q x m ≡ leading u p q x m
   leading_same p None x m = put_same p _ _ (ap (λ (l : Links). record l { last = x }) (same p)) m
   leading_same p (Some q) x m = put_same (q.0) _ _ (ap (λ (l : Links). record l { previous = x }) (same (q.0))) m

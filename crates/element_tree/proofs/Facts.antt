@@ -2,16 +2,9 @@
 -- and `height_bound` of `Levels`, the walks of `Walks`, and these.
 use Rattle.std.proofs.Common.{◌≡◌, ℕ, zero, suc, ◌<◌, List, [], ◌∷◌, length, get_or, Some, true, sym, ◌∙◌, arith, inl, inr, eqb-true}
 use Rattle.std.proofs.lemmas.Bool.{or_cases}
-use Rattle.std.proofs.lemmas.Bool.Decides.{nat_tests}
 use Rattle.element_tree.specs.Forest.{Knot, IsForest, has, parent_of, children_of}
 use Rattle.element_tree.proofs.Nodes.{parent_within}
 use Rattle.element_tree.proofs.Levels.{kid_parent, some_names}
-
--- a number stands in a list exactly where it has a place there
-pub has_place : (xs : List ℕ) (i : ℕ) → i < length xs → has xs (get_or xs i 0) ≡ true
-has_place [] i h = absurd (omega arith)
-has_place (x ∷ xs) zero h = grind (arith, nat_tests)
-has_place (x ∷ xs) (suc i) h = grind (arith, nat_tests, has_place xs i (omega arith))
 
 pub place_of : (xs : List ℕ) (c : ℕ) → has xs c ≡ true → (i : ℕ) × (i < length xs) × (get_or xs i 0 ≡ c)
 place_of [] c h = cc

@@ -46,10 +46,6 @@ pub once_apart : (m : ℕ) (front rest : List ℕ) → IsOnce (front ++ rest) �
 once_apart m [] rest h e = refl
 once_apart m (x ∷ front) rest h e = grind (arith, nat_tests, once_apart m front rest h.1 e, has-append x front rest, has-append m front rest)
 
-last_put : (c : ℕ) (xs : List ℕ) → last_of (xs ++ c ∷ []) ≡ Some c
-last_put c [] = refl
-last_put c (x ∷ xs) = ap (λ (o : Option ℕ). Some (unwrap_or o x)) (last_put c xs)
-
 ahead_once : (m : ℕ) (c : ℕ) (front rest : List ℕ) → has front m ≡ false → nat_eq m c ≡ false → names (first_of rest) m ≡ true → previous_of m (front ++ c ∷ rest) ≡ Some c
 ahead_once m c [] [] h ne e = grind (arith, nat_tests)
 ahead_once m c [] (r ∷ rest) h ne e = grind (arith, nat_tests)

@@ -1,5 +1,5 @@
 -- A forest once a node was removed, and once it was inserted.
-use Rattle.std.proofs.Common.{◌≡◌, ℕ, ◌+◌, ◌-◌, ◌<◌, ◌≤◌, List, length, Option, Some, None, true, false, cond, nat_eq, refl, sym, ap, subst, ◌∙◌, arith, inl, inr, eqb-true}
+use Rattle.std.proofs.Common.{◌≡◌, ℕ, ◌+◌, ◌-◌, ◌<◌, ◌≤◌, List, length, Option, Some, None, true, false, cond, nat_eq, sym, ap, subst, ◌∙◌, arith, inl, inr, eqb-true}
 use Rattle.std.proofs.lemmas.Bool.{cases_Bool}
 use Rattle.std.proofs.lemmas.Bool.Decides.{nat_tests}
 use Rattle.element_tree.specs.Forest.{Knot, IsForest, IsOnce, has, names, parent_of, children_of, depth, height, is_ancestor}
@@ -9,9 +9,6 @@ use Rattle.element_tree.proofs.Nodes.{parent-removed, children-removed, parent-a
 use Rattle.element_tree.proofs.Levels.{below, some_names, height_law}
 use Rattle.element_tree.proofs.Depths.{depth_positive}
 use Rattle.element_tree.proofs.Relevel.{falls_again, within_again}
-
-names-some : (q p : ℕ) → names (Some q) p ≡ nat_eq p q
-names-some q p = refl
 
 module _ {P : Type 0} {most : ℕ} (nodes : List (Knot P)) (forest : IsForest most nodes) (n p : ℕ)
     (held : parent_of nodes n ≡ Some p) (n_in : n < length nodes) (p_in : p < length nodes) where

@@ -98,9 +98,5 @@ module _ (script : Script) (document : ℕ) (copied : List FrameCallback) (befor
       → frames_left script document copied before ≡ silent after
   frames_none after active is changed = turn true active ∙ none-handed next_frame after (none_found told next_frame is) changed
 
-  -- the documents stay as they are
-  pub frame_active : (after : World) → after ≡ frame_handed next_frame → is_active (before.tree) document ≡ true → is_active (after.tree) document ≡ true
-  frame_active after changed active = ap (λ (world : World). is_active (world.tree) document) changed ∙ active
-
   pub others_of : (rest : List FrameCallback) → rest ≡ others_left → AreOf document copied → AreOf document rest
   others_of rest same own = subst (AreOf document) (sym same) (left_of_all (λ (it : FrameCallback). it.document ≡ document) (stands_now before) copied own)

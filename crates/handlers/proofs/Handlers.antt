@@ -56,7 +56,3 @@ named_is script handed number world block is = ap (λ it. caught (run_block scri
 pub no_handler : (script : Script) (handed : Entries) (world : World) (handler : Option HandlerId) → handler ≡ None
     → silent world ≡ run_handler script handed (option_map (λ (it : HandlerId). it.0) handler) world
 no_handler script handed world handler none = ap (λ (it : Option HandlerId). run_handler script handed (option_map (λ (number : HandlerId). number.0) it) world) (sym none)
-
-pub the_handler : (script : Script) (handed : Entries) (world : World) (handler : Option HandlerId) (number : ℕ) → handler ≡ Some (record { 0 = number })
-    → run_handler script handed (Some number) world ≡ run_handler script handed (option_map (λ (it : HandlerId). it.0) handler) world
-the_handler script handed world handler number is = ap (λ (it : Option HandlerId). run_handler script handed (option_map (λ (number : HandlerId). number.0) it) world) (sym is)

@@ -44,25 +44,10 @@ pub line_reaches : (names : List Name) (observer elements : ℕ) (entry : Entry)
 unfolding intersection_line
 line_reaches names observer elements entry written = record { root = written.root; bounds = written.bounds; cut = written.cut }
 
-lines_reach : (names : List Name) (observer elements : ℕ) (entries : List Entry) → AreWritten elements entries → AllByRecursion HasReach (intersection_lines names observer entries)
-unfolding intersection_lines
-lines_reach names observer elements [] written = tt
-lines_reach names observer elements (entry ∷ entries) written =
-    (line_reaches names observer elements entry written.0, lines_reach names observer elements entries written.1)
-
 targets_in : (world : World) (entries : List Entry) → AreWritten (length (world.tree.elements)) entries
     → AreIn world (map (λ (entry : Entry). IntersectionEntry (entry.target) (entry.finding.meets)) entries)
 targets_in world [] written = tt
 targets_in world (entry ∷ entries) written = (written.0.target, targets_in world entries written.1)
-
--- entries of what there is, with rectangles that can be written, can be handed to a callback
-pub written_handed : (world : World) (observer : ℕ) (entries : List Entry) → observer < length (world.intersection_observers.made) → AreWritten (length (world.tree.elements)) entries
-    → AreHanded world (CutEntries observer entries)
-written_handed world observer entries made written = record {
-  caller = made;
-  targets = targets_in world entries written;
-  reach = lines_reach (world.names) observer (length (world.tree.elements)) entries written;
-}
 
 written_from : (names : List Name) (observer elements : ℕ) (entry : Entry) → entry.target < elements → HasReach (intersection_line names observer entry) → IsWritten elements entry
 unfolding intersection_line

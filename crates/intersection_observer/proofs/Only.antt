@@ -61,11 +61,6 @@ none-queued n time now (x ∷ xs) none =
 
 -- the only one for a target
 
-pub only-registered : (n place : ℕ) (it : Registration) (xs : List Registration) → IsOnly n place it xs → is_registered n xs ≡ true
-only-registered n place it [] only = absurd only
-only-registered n zero it (x ∷ xs) only = ap (λ b. b || is_registered n xs) (only.1)
-only-registered n (suc place) it (x ∷ xs) only = ap (λ b. b || is_registered n xs) (only.0) ∙ only-registered n place it xs (only.1)
-
 pub only-without : (n place : ℕ) (it : Registration) (xs : List Registration) → IsOnly n place it xs → remove xs place ≡ without_target n xs
 only-without n place it [] only = absurd only
 only-without n zero it (x ∷ xs) only =

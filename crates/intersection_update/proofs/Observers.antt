@@ -17,7 +17,7 @@ use Rattle.intersection_observer.proofs.Standing.{stands-there}
 use Rattle.kept_clips.specs.Touches.{Touched}
 use Rattle.kept_clips.specs.Seen.{Seen, sighting_of, sighting_in}
 use Rattle.kept_clips.specs.Looked.{IsLeft, ChangesByLooks}
-use Rattle.kept_clips.proofs.Looking.{changes_none, changes_then}
+use Rattle.kept_clips.proofs.Looking.{changes_then}
 use Rattle.candidate_index.specs.declared.index.Kept.{Kept}
 use Rattle.candidate_index.specs.Registrations.{place_of, observer_of, target_of}
 use Rattle.candidate_index.specs.Held.{kept_of}
@@ -109,13 +109,6 @@ pub record Looks (shown : Shown) (document : ℕ) (was : IntersectionObservers) 
   pub touched : ChangesByLooks (scene_of shown) before.seen now.seen before.clips.touches now.clips.touches
   pub left : (spot : Container) → ((serial : ℕ) → IsLookedAt shown.tree document was serial → IsOff shown was spot serial) → IsLeft before.seen now.seen before.clips.touches now.clips.touches spot
   pub seen : (serial : ℕ) → IsLookedAt shown.tree document was serial → (place_of was serial).watcher < number → IsSeen shown was now.seen serial
-
-pub looks_none : (shown : Shown) (document : ℕ) (was : IntersectionObservers) (it : HeldFindings) → Looks shown document was 0 it it
-looks_none shown document was it = record {
-  touched = changes_none (scene_of shown) (it.seen) (it.clips.touches);
-  left = λ spot off. record { touch = refl; sighting = refl };
-  seen = λ serial looked below. absurd (omega (arith, below));
-}
 
 module _ (shown : Shown) (document : ℕ) (was it : IntersectionObservers) (carried : Carried was it) (number : ℕ) where
   pub looks_more : (before now next : HeldFindings) → is_rooted_in shown.tree document (intersection_observer_at it number).root ≡ true → Looks shown document was number before now →

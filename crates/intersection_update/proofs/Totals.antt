@@ -174,13 +174,6 @@ module _ (shown : Shown) (margins : List Margins) (chained : HaveChains shown) (
     pub kept : (serial : ℕ) → number ≤ (place_of was serial).watcher → kept_of now.kept serial ≡ kept_of old.kept serial
     pub pairs : (serial : ℕ) → number ≤ (place_of was serial).watcher → pair_of now.clips serial ≡ pair_of old.clips serial
 
-  pub totals_none : (it : HeldFindings) (from : ℕ) → Totals 0 it it from from
-  totals_none it from = record {
-    paid = omega arith;
-    kept = λ serial later. refl;
-    pairs = λ serial later. refl;
-  }
-
   pub totals_skip : (it : IntersectionObservers) → Carried was it → (number : ℕ) (old now : HeldFindings) (from steps : ℕ) → number < length was.made →
       is_rooted_in shown.tree document (intersection_observer_at it number).root ≡ false → Totals number old now from steps → Totals (number + 1) old now from steps
   totals_skip it carried number old now from steps there apart so_far = record {

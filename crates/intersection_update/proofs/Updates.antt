@@ -10,7 +10,7 @@ use Rattle.page_model.specs.Lookups.{entry_or, no_intersection_observer, interse
 use Rattle.page_model.specs.Intersections.{is_rooted_in, watchers, settled_observer, settling, has_queued}
 use Rattle.intersection_observer.specs.Watchers.{HeldWatchers}
 use Rattle.intersection_update.specs.Updating.{found_through, updated, has_news, IsBegun, IsStopped, first_settled, first_updated, settled_if_rooted}
-use Rattle.intersection_update.proofs.Lists.{map_from, any_from, changed_at, changed_same, unchanged, any_more, firsts, first_at, first_more, first_all, first_none, changed_in_turn, each_place, each_first, any_place}
+use Rattle.intersection_update.proofs.Lists.{map_from, any_from, changed_at, changed_same, unchanged, any_more, firsts, first_at, first_more, first_all, changed_in_turn, each_place, each_first, any_place}
 
 -- whether one was queued earlier or now
 pub either_queued : (queued more : Bool) (a b c : ℕ) → queued ≡ nat_lt a b → more ≡ nat_lt b c → a ≤ b → b ≤ c → (queued || more) ≡ nat_lt a c
@@ -88,9 +88,6 @@ module _ (shown : Shown) (margins : List Margins) (tree : Tree) (document time :
       no_more : (b : Bool) → b ≡ (b || false)
       no_more true = refl
       no_more false = refl
-
-  pub no_observer : was.part.made ≡ first_observers 0
-  no_observer = sym (first_none no_intersection_observer is_its once_settled (was.part.made))
 
   -- all of them are those of the update
   all_made : (updated shown margins tree document time (was.part)).made ≡ map_from 0 (settled_if_rooted shown margins tree document time) (was.part.made)

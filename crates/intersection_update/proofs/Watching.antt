@@ -7,7 +7,7 @@ use Rattle.script_model.specs.Margins.{Margins}
 use Rattle.trace_text.specs.Ranges.{RectReaches}
 use Rattle.page_model.specs.World.{Finding, Entry, Registration, Root, IntersectionObserver, IntersectionObservers}
 use Rattle.page_model.specs.Lookups.{entry_or, change_at, no_intersection_observer, intersection_observer_at}
-use Rattle.page_model.specs.IntersectionObserving.{is_registered, with_intersection_observer, with_registration, without_registration, without_registrations, without_queue}
+use Rattle.page_model.specs.IntersectionObserving.{is_registered, with_intersection_observer, with_registration, without_registration, without_queue}
 use Rattle.page_model.specs.Intersections.{Settled, settled, is_news}
 use Rattle.intersection_observer.specs.Places.{Standing, standing_of}
 use Rattle.intersection_observer.specs.Settling.{settled_if, settled_at, settled_standing, with_settled}
@@ -74,10 +74,6 @@ module _ (elements : ℕ) where
       kept_at (λ (each : IntersectionObserver). record each { registrations = filter (λ (registration : Registration). not (registration.target == n)) (each.registrations) })
       (λ x was. record { registrations = all_filter (IsIn elements) (λ (registration : Registration). not (registration.target == n)) (x.registrations) was.registrations; queue = was.queue })
       watcher (it.made) are
-
-  pub kept_disconnected : (watcher : ℕ) (it : IntersectionObservers) → AreWatchers elements it.made → AreWatchers elements (without_registrations watcher it).made
-  kept_disconnected watcher it are =
-      kept_at (λ (each : IntersectionObserver). record each { registrations = [] }) (λ x was. record { registrations = tt; queue = was.queue }) watcher (it.made) are
 
   -- a queue taken out
   pub kept_taken : (watcher : ℕ) (it : IntersectionObservers) → AreWatchers elements it.made → AreWatchers elements (without_queue watcher it).made

@@ -1,6 +1,6 @@
 -- Spots that are looked at one after the other.
 use Rattle.std.proofs.Common.{◌≡◌, ◌∙◌, ℕ, ◌≤◌, ◌<◌, true, List, Some, min, suc, ap, refl, sym, subst, inl, inr, arith, length-set}
-use Rattle.std.specs.Prelude.{◌⊎◌, option_and_then}
+use Rattle.std.specs.Prelude.{◌⊎◌}
 use Rattle.element_tree.specs.declared.container.Container.{Container}
 use Rattle.element_tree.specs.declared.container.Container.TheVariants.{Element, Document}
 use Rattle.clip_chain.specs.Scenes.{Scene}
@@ -8,12 +8,12 @@ use Rattle.kept_clips.specs.declared.sightings.Sighting.{Sighting}
 use Rattle.kept_clips.specs.Touches.{Touched, last_number, IsAdded, touched, touched_at}
 use Rattle.kept_clips.specs.Held.{HeldClips, pair_of}
 use Rattle.kept_clips.specs.Chains.{stands, IsExact}
-use Rattle.kept_clips.specs.Scenes.{AgreesAt, IsSpotwise}
+use Rattle.kept_clips.specs.Scenes.{IsSpotwise}
 use Rattle.kept_clips.specs.Seen.{Seen, sighting_of, scene_seen, sighting_in, with_sighting, HasRoom}
 use Rattle.kept_clips.specs.Looked.{IsLeft, IsSeenAnew, ChangesByLooks, Looked, MayBeSeen}
 use Rattle.kept_clips.proofs.Touching.{touched_here, untouched_there}
 use Rattle.kept_clips.proofs.Spots.{same_or_apart}
-use Rattle.kept_clips.proofs.Seeing.{seen_there, seen_here, was_scrolling, agrees_as_seen}
+use Rattle.kept_clips.proofs.Seeing.{seen_there, seen_here}
 
 -- room stays
 room_seen : (it : Seen) (of spot : Container) (s : Sighting) → HasRoom it spot → HasRoom (with_sighting of s it) spot
@@ -106,15 +106,6 @@ module _ (scene : Scene) where
     added = λ spot added. two.added spot (one.added spot added);
   }
 
-  -- what agreed still does
-  pub agrees_after : (before now : Seen) (was held : HeldClips) (spot : Container) → Looked scene before now was held → AgreesAt (scene_seen before) scene spot → AgreesAt (scene_seen now) scene spot
-  agrees_after before now was held spot looked agrees = elim (looked.spots.each spot) [
-    | inl left ↦ record {
-      container = agrees.container ∙ sym (ap (option_and_then (λ (s : Sighting). s.container)) left.sighting);
-      clip = agrees.clip ∙ sym (ap (option_and_then (λ (s : Sighting). s.clip)) left.sighting);
-      scrolls = agrees.scrolls ∙ sym (ap was_scrolling left.sighting);
-    }
-    | inr anew ↦ agrees_as_seen now spot scene anew.sighting
   ]
 
   pub may_after : (before now : Seen) (was held : HeldClips) (spot : Container) → Looked scene before now was held → MayBeSeen before was spot → MayBeSeen now held spot

@@ -51,10 +51,6 @@ kept_at [] n s e = refl
 kept_at (x ∷ xs) zero s e = ap (λ (o : Option Sighting). o ∷ xs) (sym e)
 kept_at (x ∷ xs) (suc n) s e = ap (λ (others : List (Option Sighting)). x ∷ others) (kept_at xs n s e)
 
-pub seen_again : (it : Seen) (of : Container) (s : Sighting) → sighting_of it of ≡ Some s → with_sighting of s it ≡ it
-seen_again it (Element a) s e = ap (λ (nodes : List (Option Sighting)). record it { nodes = nodes }) (kept_at it.nodes a.0 s e)
-seen_again it (Document d) s e = ap (λ (views : List (Option Sighting)). record it { views = views }) (kept_at it.views d.0 s e)
-
 pub agrees_as_seen : (it : Seen) (of : Container) (now : Scene) → sighting_of it of ≡ Some (sighting_in now of) → AgreesAt (scene_seen it) now of
 agrees_as_seen it of now e = record {
   container = sym (ap (option_and_then (λ (each : Sighting). each.container)) e);

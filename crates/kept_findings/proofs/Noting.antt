@@ -1,5 +1,5 @@
 -- Spots that are noted as looked at, and what is known of them.
-use Rattle.std.proofs.Common.{◌≡◌, ◌∙◌, ℕ, ◌<◌, true, false, length, ap, refl, sym, subst, inl, inr, get_or-set_other, get_or-set_same, length-set}
+use Rattle.std.proofs.Common.{◌≡◌, ◌∙◌, ℕ, ◌<◌, true, false, length, ap, refl, sym, subst, inl, inr, get_or-set_other, length-set}
 use Rattle.std.specs.Prelude.{Some}
 use Rattle.std.proofs.lemmas.Bool.{false≢true}
 use Rattle.std.proofs.lemmas.List.{length-replicate}
@@ -35,21 +35,11 @@ looked_first scene rank seen = record {
 
 -- one spot more
 
-pub noted_here : (it : LookedAt) (of : Container) → HasPlace it of → IsNoted (noted of it) of
-noted_here it (Element a) place = get_or-set_same it.nodes a.0 true false place
-noted_here it (Document d) place = get_or-set_same it.views d.0 true false place
-
 noted_there : (it : LookedAt) (of other : Container) → (¬ other ≡ of) → is_looked (noted of it) other ≡ is_looked it other
 noted_there it (Element a) (Element b) apart = get_or-set_other it.nodes a.0 b.0 true false (other_node b.0 a.0 apart)
 noted_there it (Element a) (Document d) apart = refl
 noted_there it (Document d) (Element b) apart = refl
 noted_there it (Document c) (Document d) apart = get_or-set_other it.views c.0 d.0 true false (other_view d.0 c.0 apart)
-
-pub noted_still : (it : LookedAt) (of other : Container) → HasPlace it of → IsNoted it other → IsNoted (noted of it) other
-noted_still it of other place is = elim (same_or_apart of other) [
-  | inl same ↦ subst (IsNoted (noted of it)) (sym same) (noted_here it of place)
-  | inr apart ↦ noted_there it of other apart ∙ is
-]
 
 place_still : (it : LookedAt) (of spot : Container) → HasPlace it spot → HasPlace (noted of it) spot
 place_still it (Element a) (Element b) place = subst (λ n. b.0 < n) (sym (length-set it.nodes a.0 true)) place

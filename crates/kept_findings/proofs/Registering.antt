@@ -1,22 +1,18 @@
 -- What is kept through one more registration or one less, and through what is found of one.
-use Rattle.std.proofs.Common.{◌≡◌, ◌∙◌, ℕ, Bool, true, false, cond, ◌==◌, ◌<◌, ◌-◌, suc, List, ◌++◌, length, Result, Option, Some, None, is_some, option_map, unwrap_or, ap, refl, sym, subst, arith, length-append}
+use Rattle.std.proofs.Common.{◌≡◌, ◌∙◌, ℕ, Bool, true, false, cond, ◌==◌, ◌<◌, ◌-◌, suc, List, ◌++◌, length, Option, Some, None, is_some, option_map, unwrap_or, ap, refl, sym, subst, arith, length-append}
 use Rattle.std.proofs.lemmas.Bool.{eqb-true, eq-eqb}
 use Rattle.std.specs.Cmp.{nat_cmp_total, unsigned_tied}
 use Rattle.std.specs.FinMap.{FinMap, get, insert, remove, contains_key, get-insert, get-remove, get-empty, empty, same_map, nat_cmp-IsAntisymmetric}
 use Rattle.std.specs.Ordering.{nat_cmp, eq_by_cmp}
-use Rattle.std.specs.Prelude.{replicate, OnOk, OnErr}
+use Rattle.std.specs.Prelude.{replicate}
 use Rattle.std.proofs.lemmas.List.{length-replicate}
 use Rattle.script_model.specs.Margins.{Margins}
 use Rattle.page_model.specs.World.{IntersectionObservers}
 use Rattle.element_tree.specs.declared.container.Container.{Container}
-use Rattle.element_tree.specs.declared.container.Container.TheVariants.{Element, Document}
 use Rattle.intersection_observer.specs.Places.{Standing as Place, standing_of}
 use Rattle.kept_clips.specs.declared.pair.Pair.{Pair}
-use Rattle.kept_clips.specs.Touches.{Touched, last_touch, IsAdded, with_spot}
-use Rattle.kept_clips.specs.Held.{HeldClips, spots_of as spots_in}
-use Rattle.kept_clips.proofs.Adding.{same_last}
-use Rattle.kept_clips.proofs.Pairs.{either}
-use Rattle.kept_clips.specs.Seen.{Seen, HasRoom, scene_seen, with_room}
+use Rattle.kept_clips.specs.Held.{spots_of as spots_in}
+use Rattle.kept_clips.specs.Seen.{scene_seen}
 use Rattle.candidate_index.specs.declared.index.Kept.{Kept}
 use Rattle.candidate_index.specs.Held.{AreFound}
 use Rattle.kept_findings.specs.Held.{no_findings}
@@ -79,37 +75,5 @@ longer xs n x = omega (arith, length-append xs (replicate (suc n - length xs) x)
 still : {A : Type 0} (xs ys : List A) (n : ℕ) → n < length xs → n < length (xs ++ ys)
 still xs ys n h = omega (arith, h, length-append xs ys)
 
-pub has_room_there : (of : Container) (it : Seen) → HasRoom (with_room of it) of
-has_room_there (Element a) it = longer it.nodes a.0 None
-has_room_there (Document d) it = longer it.views d.0 None
-
-pub has_room_still : (of spot : Container) (it : Seen) → HasRoom it spot → HasRoom (with_room of it) spot
-has_room_still (Element a) (Element b) it h = still it.nodes (replicate (suc a.0 - length it.nodes) None) b.0 h
-has_room_still (Element a) (Document d) it h = h
-has_room_still (Document d) (Element b) it h = h
-has_room_still (Document c) (Document d) it h = still it.views (replicate (suc c.0 - length it.views) None) d.0 h
-
-pub is_added_there : (of : Container) (it : Touched) → IsAdded (with_spot of it) of
-is_added_there (Element a) it = longer it.nodes a.0 0
-is_added_there (Document d) it = longer it.views d.0 0
-
-pub is_added_still : (of spot : Container) (it : Touched) → IsAdded it spot → IsAdded (with_spot of it) spot
-is_added_still (Element a) (Element b) it h = still it.nodes (replicate (suc a.0 - length it.nodes) 0) b.0 h
-is_added_still (Element a) (Document d) it h = h
-is_added_still (Document d) (Element b) it h = h
-is_added_still (Document c) (Document d) it h = still it.views (replicate (suc c.0 - length it.views) 0) d.0 h
-
 -- what becomes of room by both calls that make it
 module _ (of : Container) where
-  pub once_roomy : {A E : Type 0} (result : Result A E) (seen new : Seen) → OnOk result (new ≡ with_room of seen) → OnErr result (new ≡ seen) → (spot : Container) → HasRoom seen spot → HasRoom new spot
-  once_roomy result seen new ok err spot room = either result (λ (s : Seen). HasRoom s spot) seen new (with_room of seen) ok err (has_room_still of spot seen room) room
-
-  pub once_added : {A E : Type 0} (result : Result A E) (clips new : HeldClips) → OnOk result (new ≡ record clips { touches = with_spot of (clips.touches) }) → OnErr result (new ≡ clips) → (spot : Container) → IsAdded clips.touches spot → IsAdded new.touches spot
-  once_added result clips new ok err spot added =
-      either result (λ (c : HeldClips). IsAdded c.touches spot) clips new (record clips { touches = with_spot of (clips.touches) }) ok err (is_added_still of spot clips.touches added) added
-
-  pub once_same : {A E : Type 0} (result : Result A E) (clips new : HeldClips) → OnOk result (new ≡ record clips { touches = with_spot of (clips.touches) }) → OnErr result (new ≡ clips)
-      → (new.pairs ≡ clips.pairs) × ((spot : Container) → last_touch new.touches spot ≡ last_touch clips.touches spot)
-  once_same result clips new ok err =
-      either result (λ (c : HeldClips). (c.pairs ≡ clips.pairs) × ((spot : Container) → last_touch c.touches spot ≡ last_touch clips.touches spot)) clips new (record clips { touches = with_spot of (clips.touches) }) ok err
-      (refl, λ spot. same_last of spot clips.touches) (refl, λ spot. refl)

@@ -13,17 +13,16 @@ use Rattle.intersection_observer.specs.Places.{Standing as Place, standing_of}
 use Rattle.intersection_observer.specs.Seen.{serial_numbers}
 use Rattle.intersection_observer.specs.declared.registration.RegistrationId.{RegistrationId}
 use Rattle.kept_clips.specs.Held.{HeldClips}
-use Rattle.kept_clips.specs.Scenes.{AgreesAt}
-use Rattle.kept_clips.specs.Seen.{Seen, scene_seen}
+use Rattle.kept_clips.specs.Seen.{Seen}
 use Rattle.kept_clips.specs.Looked.{Looked, MayBeSeen}
 use Rattle.kept_findings.proofs.Along.{all_weaker}
-use Rattle.kept_clips.proofs.Looking.{agrees_after, may_after}
+use Rattle.kept_clips.proofs.Looking.{may_after}
 use Rattle.candidate_index.specs.declared.scene.Standing.{Standing}
 use Rattle.candidate_index.specs.declared.scene.Standing.TheVariants.{Apart, NoBox, Chained}
 use Rattle.candidate_index.specs.Registrations.{observer_of, target_of, standing_for, IfChained, IsBetween}
 use Rattle.candidate_index.proofs.Keeping.{if_still}
 use Rattle.candidate_index.proofs.Places.{looked_up}
-use Rattle.kept_findings.specs.Walks.{EachAlong, AreChained, AlongChain, MayBeWalked, IsWalked, between_by, spots_between}
+use Rattle.kept_findings.specs.Walks.{EachAlong, AreChained, AlongChain, MayBeWalked, between_by, spots_between}
 
 -- what is known of each registration of a list is known of each serial number
 pub all_serials : (P : ℕ → Type 0) (rs : List RegistrationId) (serials : List ℕ) → serial_numbers rs ≡ serials → ((k : ℕ) (none : RegistrationId) → k < length rs → P (get_or rs k none).0) → All P serials
@@ -69,10 +68,6 @@ module _ (scene : Scene) (standings : Root → ℕ → Standing) where
         let root = spot_of_root (observer_of it serial).root in
         if_still (standing_for standings it serial) (EachAlong P scene target root) (EachAlong Q scene target root)
         (λ all between lead. all_weaker P Q each (target ∷ (between ++ root ∷ [])) (all between lead)) along
-
-    pub walked_after : (before now : Seen) (was held : HeldClips) → Looked scene before now was held → (serial : ℕ) → IsWalked scene standings it before serial → IsWalked scene standings it now serial
-    walked_after before now was held looked serial walked =
-        along_weaker (AgreesAt (scene_seen before) scene) (AgreesAt (scene_seen now) scene) (λ spot. agrees_after scene before now was held spot looked) serial walked
 
     pub room_after : (before now : Seen) (was held : HeldClips) → Looked scene before now was held → (serial : ℕ) → MayBeWalked scene standings it before was serial → MayBeWalked scene standings it now held serial
     room_after before now was held looked serial room =

@@ -92,11 +92,6 @@ due_like wanted old new (suc n) same =
     ∙ ap (λ b. due_count wanted old n + one_if b) (same n (omega arith))
     ∙ sym (due_step wanted old n)
 
-pub due_none : (wanted : ℕ → Option Inputs) (slot : ℕ → Slot) (count : ℕ) → ((n : ℕ) → is_due wanted slot n ≡ false) → due_count wanted slot count ≡ 0
-due_none wanted slot zero none = due_zero wanted slot
-due_none wanted slot (suc n) none =
-    due_step wanted slot n ∙ ap (λ k. k + one_if (is_due wanted slot n)) (due_none wanted slot n none) ∙ ap (λ b. 0 + one_if b) (none n)
-
 module _ (wanted : ℕ → Option Inputs) (x : ℕ) (old new : ℕ → Slot) (others : (m : ℕ) → m ≢ x → new m ≡ old m) where
   due_other : (m : ℕ) → m ≢ x → is_due wanted new m ≡ is_due wanted old m
   due_other m other = ap (is_due_at (wanted m)) (others m other)

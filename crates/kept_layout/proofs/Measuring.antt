@@ -70,10 +70,6 @@ found_as : (o : Option Found) (box : Box) (inputs : Inputs) → option_map (λ f
 found_as None box inputs own from = cc
 found_as (Some found) box inputs own from = (found, refl, cc, cc)
 
-measured_same : (inputs : Inputs) → IsCapped inputs → (box : Box) (above high : ℕ) → above ≡ high → (clip : Bool)
-    → measured_of inputs box above clip ≡ measured_of inputs box high clip
-measured_same inputs capped box above high same clip = ap (λ a. measured_of inputs box a clip) same
-
 module _ (at : ℕ → Node) (shallow : IsShallow at) (view : View) where
   capped_inputs : IsSized view → (n : ℕ) (inputs : Inputs) → inputs_in_view at view n ≡ Some inputs → IsCapped inputs
   capped_inputs sized n inputs is =

@@ -3,7 +3,7 @@ use Rattle.std.proofs.Common.{◌≡◌, ◌≤◌, ◌<◌, ℕ, zero, suc, Boo
 use Rattle.std.specs.Prelude.{◌||◌, find}
 use Rattle.std.proofs.lemmas.Bool.{or_cases, false≢true}
 use Rattle.std.proofs.lemmas.Bool.Decides.{nat_tests}
-use Rattle.layout_model.specs.Nodes.{Node, levels, path_above, path_up, path_of, ancestors_of, depth_of, is_among, is_in_path, last_of, top_of, IsShallow}
+use Rattle.layout_model.specs.Nodes.{Node, path_above, path_up, path_of, ancestors_of, depth_of, is_among, is_in_path, last_of, top_of, IsShallow}
 use Rattle.layout_model.proofs.Paths.{path_child, path_top, depth_child, depth_least, ancestors_child, ancestors_top}
 
 pub option_cases : {A : Type 0} (found : Option A) → (found ≡ None) ⊎ ((a : A) × (found ≡ Some a))
@@ -76,28 +76,6 @@ module _ (at : ℕ → Node) (shallow : IsShallow at) where
   pub up_path : (holds : ℕ → Type 0) → ((c p : ℕ) → (at c).parent ≡ Some p → holds c → holds p) → (a n : ℕ) → is_in_path at a n ≡ true → holds n → holds a
   up_path holds step a n inside = down_path (λ m. holds m → holds a) (λ c p is on here. on (step c p is here)) a n inside (λ here. here)
 
-  above_enough : (high other : ℕ) (found : Option ℕ) → ((p : ℕ) → found ≡ Some p → path_up high at p ≡ path_up other at p) → path_above (path_up high at) found ≡ path_above (path_up other at) found
-  above_enough high other None same = refl
-  above_enough high other (Some p) same = same p refl
-
-  -- no bound from the depth on cuts a path off
-  pub path_same : (high other n : ℕ) → depth_of at n ≤ high → depth_of at n ≤ other → path_up high at n ≡ path_up other at n
-  unfolding path_up
-  path_same zero other n low also = absurd (omega (arith, depth_least at n))
-  path_same (suc high) zero n low also = absurd (omega (arith, depth_least at n))
-  path_same (suc high) (suc other) n low also =
-      ap
-      (λ above. n ∷ above)
-      (above_enough
-      high
-      other
-      ((at n).parent)
-      (λ p is. path_same high other p (omega (arith, depth_child at n p is (shallow p))) (omega (arith, depth_child at n p is (shallow p)))))
-
-  pub path_enough : (high n : ℕ) → depth_of at n ≤ high → path_up high at n ≡ path_of at n
-  unfolding path_of
-  path_enough high n low = path_same high levels n low (shallow n)
-
   pub in_path_of_parent : (p c n : ℕ) → (at c).parent ≡ Some p → is_in_path at c n ≡ true → is_in_path at p n ≡ true
   in_path_of_parent p c n is inside = down_path (λ m. is_in_path at p m ≡ true) (λ c q up. above_in p c q up) c n inside (above_in p c p is (in_self at p))
 
@@ -110,9 +88,6 @@ module _ (at : ℕ → Node) (shallow : IsShallow at) where
   pub top_child : (c p : ℕ) → (at c).parent ≡ Some p → top_of at c ≡ top_of at p
   unfolding top_of last_of path_of path_up
   top_child c p is = ap (last_of c) (path_child at c p is (shallow p))
-
-  pub in_path_top : (a n : ℕ) → is_in_path at a n ≡ true → top_of at a ≡ top_of at n
-  in_path_top a n inside = down_path (λ m. top_of at a ≡ top_of at m) (λ c p is same. same ∙ sym (top_child c p is)) a n inside refl
 
   -- a proper ancestor is one of the parent's inclusive ones
   pub proper_parent : (a n : ℕ) → is_among a (ancestors_of at n) ≡ true → (p : ℕ) × ((at n).parent ≡ Some p) × (is_in_path at a p ≡ true)

@@ -3,9 +3,9 @@ use Rattle.std.proofs.Common.{◌≡◌, ◌≤◌, ◌<◌, ◌+◌, ℕ, zero,
 use Rattle.std.specs.Prelude.{find, is_some}
 use Rattle.std.proofs.lemmas.Bool.{false≢true}
 use Rattle.layout_model.specs.Styles.{Position, StaticPosition, RelativePosition, AbsolutePosition, FixedPosition}
-use Rattle.layout_model.specs.Nodes.{Node, levels, ancestors_of, depth_of, is_among, is_in_path, top_of, position_of, is_positioned, is_flow, is_in_flow, Holder, HeldByElement, HeldByPage, HeldByScreen, held_by, holder_by, holder, element_of, is_screen, held, holders_of, is_on_screen, IsShallow}
+use Rattle.layout_model.specs.Nodes.{Node, levels, ancestors_of, depth_of, is_among, is_in_path, position_of, is_positioned, is_flow, is_in_flow, Holder, HeldByElement, HeldByPage, HeldByScreen, held_by, holder_by, holder, element_of, is_screen, held, holders_of, is_on_screen, IsShallow}
 use Rattle.layout_model.proofs.Paths.{path_self, depth_child, depth_least, depth_top, ancestors_child, ancestors_top}
-use Rattle.layout_model.proofs.Ancestors.{found_among, in_self, top_of_top, proper_parent, proper_in_path, proper_depth, down_path, in_path_trans, in_path_depth, in_path_top, top_child}
+use Rattle.layout_model.proofs.Ancestors.{found_among, in_self, top_of_top, proper_parent, proper_in_path, proper_depth, down_path, in_path_trans, in_path_depth, top_child}
 
 pub top_static : (at : ℕ → Node) (n : ℕ) → (at n).parent ≡ None → position_of (at n) ≡ StaticPosition
 top_static at n top = ap (λ found. cond (is_some found) ((at n).item.style.position) StaticPosition) top
@@ -101,9 +101,6 @@ module _ (at : ℕ → Node) (shallow : IsShallow at) where
 
   pub holder_less : (n h : ℕ) → holder at n ≡ HeldByElement h → depth_of at h < depth_of at n
   holder_less n h is = proper_depth at shallow h n (holder_proper at n h is)
-
-  pub holder_top : (n h : ℕ) → holder at n ≡ HeldByElement h → top_of at h ≡ top_of at n
-  holder_top n h is = in_path_top at shallow h n (holder_above n h is)
 
   held_within : (high n : ℕ) → depth_of at n ≤ high → depth_of (held at) n ≤ depth_of at n
   held_within zero n low = absurd (omega (arith, depth_least at n))

@@ -39,10 +39,6 @@ pub inputs_of_boxed : (at : ℕ → Node) (root : ℕ) (viewport : Inputs) (n : 
 unfolding inputs_in
 inputs_of_boxed at root viewport n boxed = ap (λ b. cond b (Some (inputs_at at viewport n)) None) boxed
 
-pub inputs_of_unboxed : (at : ℕ → Node) (root : ℕ) (viewport : Inputs) (n : ℕ) → has_box_in at root n ≡ false → inputs_in at root viewport n ≡ None
-unfolding inputs_in
-inputs_of_unboxed at root viewport n unboxed = ap (λ b. cond b (Some (inputs_at at viewport n)) None) unboxed
-
 pub is_some_inputs : (at : ℕ → Node) (root : ℕ) (viewport : Inputs) (n : ℕ) → is_some (inputs_in at root viewport n) ≡ has_box_in at root n
 unfolding inputs_in
 is_some_inputs at root viewport n = by_box (has_box_in at root n)

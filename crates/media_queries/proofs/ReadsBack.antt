@@ -113,9 +113,6 @@ feature_inside (HeightFeature compared units) tail within =
     (height_tested compared text ∙ height_sized compared text (codes ")" ++ tail) units (no_skip text again.first) again.read)
 feature_inside (OrientationFeature portrait) tail within = oriented_again portrait tail
 
-pub feature_again : (feature : Feature) (tail : List ℕ) → IsWithin feature → feature_at (feature_text feature ++ tail) ≡ Ok (feature, tail)
-feature_again feature tail within = ap feature_at (begins_inside feature tail) ∙ feature_inside feature tail within
-
 -- Features joined by a word.
 
 -- what is read behind a word that joins features

@@ -23,11 +23,6 @@ first_stays byte (b ∷ bs) more some = refl
 pub begun_stays : (byte : ℕ) (text more : List ℕ) → 0 < length (skip text) → begins_with byte (skip (text ++ more)) ≡ begins_with byte (skip text)
 begun_stays byte text more some = ap (begins_with byte) (skip_stays text more some) ∙ first_stays byte (skip text) more some
 
-pub nothing_begun : (byte : ℕ) (text : List ℕ) → length text ≡ 0 → begins_with byte text ≡ false
-unfolding begins_with
-nothing_begun byte [] e = refl
-nothing_begun byte (b ∷ bs) e = absurd (omega arith)
-
 pub begun_some : (byte : ℕ) (text : List ℕ) → begins_with byte text ≡ true → 0 < length text
 unfolding begins_with
 begun_some byte [] e = absurd cc
@@ -274,9 +269,6 @@ more_steady (suc fuel) byte word joint =
     (λ feature. turned_steady Comma [] (more_at fuel (byte ∷ word)) (λ others. feature ∷ others) (more_steady fuel byte word joint)) (λ tail h. tt))
 
 -- More turns than the text has bytes make no difference.
-
-shorter_than : (n m : ℕ) (read : Read Feature) → OnValue (λ r. length r.1 < n) read → n ≤ m → OnValue (λ r. length r.1 < m) read
-shorter_than n m read h le = weaker_on (λ r. length r.1 < n) (λ r. length r.1 < m) read h (λ r g. omega arith)
 
 pub joined_short : (joint text : List ℕ) → OnValue (λ r. length r.1 < length text) (joined_at joint text)
 joined_short joint text =

@@ -2,7 +2,7 @@
 use Rattle.std.proofs.Common.{◌≡◌, ◌≤◌, ◌+◌, ◌-◌, ℕ, ℤ, Bool, true, false, cond, List, [], ◌∷◌, Some, None, nat_eq, eqb-true, refl, ap, sym, subst, ◌∙◌, arith}
 use Rattle.std.proofs.lemmas.Bool.Decides.{nat_tests}
 use Rattle.std.proofs.lemmas.Int.{ints}
-use Rattle.std.specs.Prelude.{◌||◌, ◌&&◌, not, is_some, pos, negsuc, ◌+ℤ◌, ◌-ℤ◌, ◌≤ℤ◌, unsigned_abs, min, Contains}
+use Rattle.std.specs.Prelude.{◌||◌, ◌&&◌, not, is_some, pos, negsuc, ◌+ℤ◌, ◌-ℤ◌, unsigned_abs, Contains}
 use Rattle.px_units.specs.Lengths.{cap, at_least_zero}
 use Rattle.px_units.specs.declared.Size.{Size}
 use Rattle.px_units.specs.declared.Point.{Point}
@@ -24,7 +24,7 @@ use Rattle.element_tree.specs.Forest.{has}
 use Rattle.page_model.specs.World.{Extent}
 use Rattle.page_model.specs.Documents.{is_number}
 use Rattle.page_model.specs.Scrolls.{lesser_extent}
-use Rattle.page_model.specs.PageBoxes.{extent_of, view_with}
+use Rattle.page_model.specs.PageBoxes.{view_with}
 use Rattle.scrolling.specs.Seen.{point_of}
 use Rattle.block_layout.specs.Seen.{as_size, as_point}
 use Rattle.kept_layout.specs.declared.slots.Slot.{Slot}
@@ -41,24 +41,7 @@ use Rattle.page_boxes.proofs.Reaching.{range_found}
 pub nothing_within : (far : ℕ × ℕ) → IsWithin (0, 0) far
 nothing_within far = (omega arith, omega arith)
 
--- a stored position that lies within the least range is in force, whatever the range is
-below_length : (a : ℕ) (length : ℤ) → pos a ≤ℤ length → a ≤ unsigned_abs length
-below_length a (pos n) low = omega (arith, ints)
-below_length a (negsuc n) low = absurd (omega (arith, ints))
-
 module _ (position : Extent) (found : Point) (is : found ≡ point_of (lesser_extent position (record { across = 2147483647; down = 2147483647 }))) where
-  pub stored_is : (least : Size) → found.left ≤ℤ least.width → found.top ≤ℤ least.height → (range : ℕ × ℕ) → IsWithin (seen_pair least) range → IsWithin range (2147483647, 2147483647)
-      → found ≡ point_of (lesser_extent position (extent_of range))
-  stored_is least left top range far most =
-      let across : pos (min position.across 2147483647) ≤ℤ least.width = rw (sym (ap (λ (p : Point). p.left) is)) left in
-      let down : pos (min position.down 2147483647) ≤ℤ least.height = rw (sym (ap (λ (p : Point). p.top) is)) top in
-      let near = below_length _ least.width across in
-      let high = below_length _ least.height down in
-      let same_across : min position.across 2147483647 ≡ min position.across range.0 = omega (arith, near, far.0, most.0) in
-      let same_down : min position.down 2147483647 ≡ min position.down range.1 = omega (arith, high, far.1, most.1) in
-      is
-      ∙ ap (λ a. point_of (let e : Extent = record { across = a; down = min position.down 2147483647 } in e)) same_across
-      ∙ ap (λ d. point_of (let e : Extent = record { across = min position.across range.0; down = d } in e)) same_down
 
 -- the edges of a border box
 pub edges_are : (across down : ℕ) (border : Size) (from : Point) (box : ℕ × ℕ) (found : Size) → border ≡ as_size box

@@ -6,8 +6,8 @@ use Rattle.element_tree.specs.Forest.{Forest, IsForest, parent_of, depth, depth_
 use Rattle.element_tree.proofs.Depths.{depth_one}
 use Rattle.element_tree.proofs.Levels.{depth_is, low_enough}
 use Rattle.page_model.specs.World.{Document, Tree}
-use Rattle.page_model.specs.Lookups.{element_at, document_at}
-use Rattle.page_model.specs.Documents.{nodes_of, root_of, is_number, is_root_element, tree_document, is_active_there, stands_in_active}
+use Rattle.page_model.specs.Lookups.{element_at}
+use Rattle.page_model.specs.Documents.{nodes_of, root_of, is_root_element, tree_document, is_active_there, stands_in_active}
 use Rattle.page_documents.specs.Seen.{Carried, seen_tree}
 use Rattle.page_documents.proofs.Seen.{parent_seen}
 
@@ -66,9 +66,3 @@ module _ (tree : Tree) (n top : ℕ) (is : top ≡ root_of tree n) where
 pub active_there : (tree : Tree) (n : ℕ) (found : Option ℕ) → found ≡ tree_document tree n → is_active_there tree found ≡ stands_in_active tree n
 unfolding stands_in_active
 active_there tree n found is = ap (is_active_there tree) is
-
--- whether an element is a root element, by its document
-pub root_number : (tree : Tree) (n owner : ℕ) (it : Document) (root : Option ℕ) → (element_at tree n).document ≡ owner → document_at tree owner ≡ it
-    → it.root ≡ root → is_root_element tree n ≡ is_number root n
-root_number tree n owner it root belongs there rooted =
-    ap (λ d. is_number (document_at tree d).root n) belongs ∙ ap (λ (it : Document). is_number it.root n) there ∙ ap (λ o. is_number o n) rooted

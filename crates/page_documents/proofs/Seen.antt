@@ -1,9 +1,9 @@
 -- What is found at the number of a node, in a tree that is seen as the elements of a world.
-use Rattle.std.proofs.Common.{◌≡◌, ℕ, List, map, Option, Some, None, slice_get, get_or, ◌<◌, length, option_map, unwrap_or, refl, ap, sym, subst, ◌∙◌}
+use Rattle.std.proofs.Common.{◌≡◌, ℕ, List, map, Option, Some, None, slice_get, ◌<◌, length, option_map, unwrap_or, refl, ap, sym, subst, ◌∙◌}
 use Rattle.std.proofs.lemmas.List.{length-map}
-use Rattle.std.proofs.lemmas.Option.{slice_get-map, slice_get-get_or}
+use Rattle.std.proofs.lemmas.Option.{slice_get-map}
 use Rattle.page_model.specs.World.{Element, Document}
-use Rattle.page_model.specs.Lookups.{element_at, entry_or, no_element, no_document}
+use Rattle.page_model.specs.Lookups.{element_at, no_element}
 use Rattle.element_tree.specs.Forest.{Knot, Forest, parent_of, children_of, parent_in, children_in}
 use Rattle.page_documents.specs.Seen.{Carried, element_of, seen_tree}
 
@@ -55,12 +55,3 @@ module _ {P : Type 0} (carried : P → Carried) where
 
 pub node_there : {P : Type 0} (carried : P → Carried) (nodes : List (Knot P)) (n : ℕ) → n < length nodes → n < length (map (element_of carried) nodes)
 node_there carried nodes n inside = subst (λ k. n < k) (sym (length-map nodes (element_of carried))) inside
-
--- what stands at a document's number
-pub entry_here : (documents : List Document) (number : ℕ) (it : Document) → number < length documents → it ≡ get_or documents number it
-    → entry_or no_document documents number ≡ it
-entry_here documents number it inside is = ap (λ o. unwrap_or o no_document) (slice_get-get_or documents number it inside) ∙ sym is
-
--- an element that there is, is a node of the tree
-pub node_known : {P : Type 0} (carried : P → Carried) (nodes : List (Knot P)) (n : ℕ) → n < length (map (element_of carried) nodes) → n < length nodes
-node_known carried nodes n inside = subst (λ k. n < k) (length-map nodes (element_of carried)) inside

@@ -1,8 +1,7 @@
 -- Steps that are made one after another.
 use Rattle.std.proofs.Common.{◌≡◌, ap}
 use Rattle.text_io.specs.declared.kinds.ThrowKind.{ThrowKind}
-use Rattle.text_io.specs.declared.kinds.LimitKind.{LimitKind}
-use Rattle.page_model.specs.Steps.{Step, Did, Threw, Met, ◌>>=◌, ◌>>◌}
+use Rattle.page_model.specs.Steps.{Step, Did, Threw, ◌>>=◌, ◌>>◌}
 
 module _ {A B : Type 0} (next : A → Step B) where
   pub then_did : (step : Step A) (value : A) → step ≡ Did value → (step >>= next) ≡ next value
@@ -13,19 +12,4 @@ module _ {A B : Type 0} (next : A → Step B) where
   unfolding ◌>>=◌
   then_threw step exception e = ap (λ it. it >>= next) e
 
-  pub then_met : (step : Step A) (limit : LimitKind) → step ≡ Met limit → (step >>= next) ≡ Met limit
-  unfolding ◌>>=◌
-  then_met step limit e = ap (λ it. it >>= next) e
-
 module _ {A B : Type 0} (next : Step B) where
-  pub and_did : (step : Step A) (value : A) → step ≡ Did value → (step >> next) ≡ next
-  unfolding ◌>>◌
-  and_did step value e = ap (λ it. it >> next) e
-
-  pub and_threw : (step : Step A) (exception : ThrowKind) → step ≡ Threw exception → (step >> next) ≡ Threw exception
-  unfolding ◌>>◌
-  and_threw step exception e = ap (λ it. it >> next) e
-
-  pub and_met : (step : Step A) (limit : LimitKind) → step ≡ Met limit → (step >> next) ≡ Met limit
-  unfolding ◌>>◌
-  and_met step limit e = ap (λ it. it >> next) e

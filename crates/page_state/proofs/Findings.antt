@@ -20,7 +20,6 @@ use Rattle.intersection_observer.specs.Serials.{IsFound, HasSerials, registratio
 use Rattle.intersection_observer.specs.Watchers.{HeldWatchers, once_observed, serial_of, without_target}
 use Rattle.intersection_observer.proofs.Entries.{none_from}
 use Rattle.intersection_observer.proofs.Only.{serial-none-without}
-use Rattle.kept_clips.specs.declared.pair.Pair.{Pair}
 use Rattle.kept_clips.specs.Touches.{last_touch}
 use Rattle.kept_clips.specs.Held.{new_pair, pair_at, spots_of as spots_in}
 use Rattle.kept_clips.specs.Seen.{sighting_of}
@@ -44,19 +43,6 @@ same_findings before after same = record {
   pairs = λ serial was is. ap (λ (it : HeldFindings). pair_at it.clips serial) same;
   findings = λ serial was is. ap (λ (it : HeldFindings). kept_of it.kept serial) same;
 }
-
-pub roomier_findings : (before after : IntersectionObservers) {old new : HeldFindings} → IsRoomier old new → KeepsFindings before after old new
-roomier_findings before after roomier = record {
-  sightings = roomier.seen;
-  count = roomier.count;
-  touches = roomier.touches;
-  pairs = λ serial was is. ap (λ (pairs : FinMap nat_cmp Pair). get pairs serial) roomier.pairs;
-  findings = λ serial was is. ap (λ (kept : FinMap nat_cmp (Option Kept)). kept_of kept serial) roomier.kept;
-}
-
-pub as_roomy : {old new : HeldFindings} → new ≡ old → IsRoomier old new
-as_roomy {old} same =
-    subst (IsRoomier old) (sym same) (record { pairs = refl; kept = refl; seen = λ spot. refl; count = refl; touches = λ spot. refl; room = λ spot may. may })
 
 pub roomier_then : {first second third : HeldFindings} → IsRoomier first second → IsRoomier second third → IsRoomier first third
 roomier_then one two = record {

@@ -1,6 +1,5 @@
 -- A page in which there is nothing but the document `top`.
 use Rattle.std.proofs.Common.{◌≡◌, ℕ, ◌==◌, List, [], ◌∷◌, Option, Some, None, length, cond, is_some, find, sym, ap, ◌∙◌, subst, arith, tests, true}
-use Rattle.text_io.specs.declared.kinds.Version.{Version}
 use Rattle.page_model.specs.World.{Thing, DocumentThing, ElementThing, ResizeObserverThing, IntersectionObserverThing, QueryListThing, Name}
 use Rattle.page_model.specs.Names.{is_same_thing}
 use Rattle.page_model.specs.Ranges.{Counts, IsThingIn}
@@ -10,8 +9,7 @@ use Rattle.kept_findings.specs.Held.{HeldFindings}
 use Rattle.kept_findings.specs.Rooms.{HaveRoom}
 use Rattle.kept_findings.proofs.Rooms.{room_none, room_document}
 use Rattle.page_tree.specs.Views.{PageElements}
-use Rattle.page_state.specs.Whole.{AreKnown, AreElementNames, AreAsked}
-use Rattle.page_state.specs.declared.queries.QueryList.{QueryList}
+use Rattle.page_state.specs.Whole.{AreKnown, AreElementNames}
 
 abbrev top_alone : List ℕ → List Name
 top_alone text = record { text = text; thing = DocumentThing 0 } ∷ []
@@ -50,6 +48,3 @@ no_elements names tree none count = record {
 pub room_first : (elements documents : ℕ) (it : HeldFindings) → elements ≡ 0 → documents ≡ 1 → MayBeSeen it.seen it.clips (view_spot 0) → HaveRoom elements documents it
 room_first elements documents it none one may =
     subst (λ (n : ℕ). HaveRoom n documents it) (sym none) (subst (λ (d : ℕ). HaveRoom 0 d it) (sym one) (room_document 0 0 it may (room_none it)))
-
-pub none_asked : (version : Version) (queries : List QueryList) (documents : ℕ) → queries ≡ [] → AreAsked version queries documents
-none_asked version queries documents none = subst (λ (it : List QueryList). AreAsked version it documents) (sym none) (record { documents = tt; few = omega arith })

@@ -174,12 +174,6 @@ length_more [] x = refl
 length_more (first ∷ xs) x = ap suc (length_more xs x) ∙ omega arith
 
 module _ (names : List Name) (tree after : PageElements) (same : AreElementNames names tree) where
-  pub names_edited : after.names ≡ tree.names → length after.tree.elements ≡ length tree.tree.elements → AreElementNames names after
-  names_edited kept count = record {
-    count = ap (λ (it : List (List ℕ)). length it) kept ∙ (same.count ∙ sym count);
-    each = λ n below. ap (λ (it : List (List ℕ)). slice_get it n) kept ∙ same.each n (subst (λ (most : ℕ). n < most) count below);
-  }
-
   module _ (counts : Counts) (is-count : counts.elements ≡ length tree.tree.elements) (known : AreKnown names counts) (text : List ℕ) where
     abbrev last : Name
     last = record { text = text; thing = ElementThing (length tree.tree.elements) }

@@ -11,7 +11,6 @@ use Rattle.page_model.specs.Gathering.{sight_of}
 use Rattle.page_model.specs.Intersections.{Settled, is_news, settled, watchers}
 use Rattle.page_model.specs.Ranges.{Counts, IsIntersectionObserverIn, IsPresentIn}
 use Rattle.page_model.specs.Shown.{Shown}
-use Rattle.page_model.specs.Steps.{Step, Did}
 use Rattle.page_model.specs.Tasks.{without_notifying}
 use Rattle.page_laws.specs.Ready.{IsReadyFor, with_first}
 use Rattle.page_laws.proofs.Lists.{IsKept, all-append, all-mapped, changed, still-kept, then-kept}
@@ -29,7 +28,7 @@ use Rattle.intersection_observer.specs.Places.{Standing, standing_of}
 use Rattle.intersection_observer.specs.Serials.{registrations_at}
 use Rattle.intersection_observer.specs.Settling.{settled_if, settled_at, settled_standing, with_settled, each_settled}
 use Rattle.intersection_update.specs.Updating.{found_through, first_updated, IsStopped}
-use Rattle.page_state.specs.Answers.{Applied, Moved, lines_of}
+use Rattle.page_state.specs.Answers.{Applied, lines_of}
 use Rattle.page_state.specs.Queries.{once_evaluated}
 use Rattle.page_state.specs.Rounds.{once_reported}
 use Rattle.page_names.specs.Things.{present_of, IsSubject}
@@ -46,14 +45,6 @@ module _ (handlers : ℕ) where
 
   pub ready_by : (old : World) {new after : PageView} → new ≡ after → IsNext old (after.world) → IsReadyFor handlers old → IsReadyFor handlers (new.world)
   ready_by old is next ready = ready_at (ap (λ (page : PageView). page.world) is) (ready-next handlers old ready _ next)
-
-  -- a step that takes no memory
-  pub ready_moved : (old new : World) (result : Result (Unit {0}) PageFault) (step : Step World) → ((after : World) → step ≡ Did after → IsReadyFor handlers after) →
-      Moved result old new step → IsReadyFor handlers old → IsReadyFor handlers new
-  ready_moved old new (Ok done) step each moved ready = each new moved
-  ready_moved old new (Err (Throw kind)) step each moved ready = ready_at moved.1 ready
-  ready_moved old new (Err (Limit kind)) step each moved ready = ready_at moved.1 ready
-  ready_moved old new (Err Memory) step each moved ready = absurd moved
 
 -- by whether it was refused
 pub by_result : {A E P : Type 0} (Done Refused : Type 0) (result : Result A E) → IfOk result (λ (value : A). Done) → OnErr result Refused → (Done → P) → (Refused → P) → P

@@ -25,10 +25,6 @@ module _ (page : Inside) (document : ℕ) (after : HeldWatchers) (queued : Bool)
   abbrev quiet : World
   quiet = world_of (record page { watchers = settled })
 
-  either_way : (told : Bool) → update_intersections document (world_of page) ≡ cond told (with_notify_task document (is_notifying document page.notifying) quiet) quiet
-      → told ≡ queued → update_intersections document (world_of page) ≡ cond queued (with_notify_task document (is_notifying document page.notifying) quiet) quiet
-  either_way told whole same = whole ∙ ap (λ (b : Bool). cond b (with_notify_task document (is_notifying document page.notifying) quiet) quiet) same
-
   comes_to : update_intersections document (world_of page) ≡ cond queued (with_notify_task document (is_notifying document page.notifying) quiet) quiet
   unfolding update_intersections
   comes_to = ap (λ (b : Bool). cond b (with_notify_task document (is_notifying document page.notifying) quiet) quiet) (sym news)

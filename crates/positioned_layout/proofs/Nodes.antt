@@ -39,9 +39,6 @@ module _ {P : Type 0} (style : P → Style) (nodes : List (Knot P)) (at : ℕ �
   position_child n p carried up is =
       ap (λ found. cond (is_some found) ((at n).item.style.position) StaticPosition) (are.parent n ∙ up) ∙ ap (λ s. s.position) (carried_style n carried is)
 
-  pub position_top : (n : ℕ) → parent_of nodes n ≡ None → position_of (at n) ≡ StaticPosition
-  position_top n top = ap (λ found. cond (is_some found) ((at n).item.style.position) StaticPosition) (are.parent n ∙ top)
-
   module _ {most : ℕ} (forest : IsForest most nodes) where
     path_length : (high n : ℕ) → length (path_up high at n) ≡ depth_up (suc high) (parent_of nodes) n
     unfolding path_up

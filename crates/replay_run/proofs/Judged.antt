@@ -100,11 +100,6 @@ taken_whole status None rest end = tt
 taken_whole status (Some source) rest end =
     taken status 67108865 source rest (end.1 ∙ ap Some (sym (drop_all 67108865 source (omega (arith, end.0)))))
 
-pub taken_past : (status : Status) (left rest : Option (List ℕ)) (feeds : ℕ) → IfSome left (λ source. PassesLimit source rest 67108864 feeds)
-    → IfSome left (λ source. IsTaken status 67108865 source rest)
-taken_past status None rest feeds passes = tt
-taken_past status (Some source) rest feeds passes = taken status 67108865 source rest passes.taken
-
 -- the judgement of what was gathered
 pub trace_judged : {A : Type 0} (r : Result A RunFault) (it : Judgement) (status result : Status) (gathered script recorded : List ℕ) (before after : Option (List ℕ)) (f g : ℕ)
     → it ≡ judgement gathered recorded → gathered ≡ trace script → status ≡ judgement_status it → result ≡ status_after r status

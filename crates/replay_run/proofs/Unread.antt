@@ -1,22 +1,17 @@
 -- A source that was read, up to what is looked at, and one that can't be read.
 use Rattle.std.proofs.Common.{◌≡◌, ◌∙◌, ap, refl, subst, sym, ℕ, List, Option}
-use Rattle.std.specs.Prelude.{Some, None, IfSome, false}
-use Rattle.text_io.specs.Streams.{Rose}
+use Rattle.std.specs.Prelude.{Some, None, IfSome}
 use Rattle.script_model.specs.Reading.{Reading, reading}
 use Rattle.page_model.specs.Outcome.{outcome_read}
 use Rattle.page_model.specs.World.{World}
-use Rattle.trace_runs.proofs.Writes.{no_part, nothing}
 use Rattle.run_replies.specs.Answers.{Ends, IsTaken, Tells}
-use Rattle.script_source.specs.Sources.{IsUnread, ReadTo}
-use Rattle.run_replies.specs.Replies.{Reply}
+use Rattle.script_source.specs.Sources.{ReadTo}
 use Rattle.script_replay.specs.ScriptReplies.{read_reply}
-use Rattle.run_replies.specs.Statuses.{is_done}
 use Rattle.run_replies.specs.Words.{looked_at}
 use Rattle.run_replies.specs.declared.words.Job.{Job}
 use Rattle.run_replies.specs.declared.words.Words.{Words}
 use Rattle.run_replies.specs.declared.words.Words.TheVariants.{Generated}
 use Rattle.run_replies.specs.declared.status.Status.{Status}
-use Rattle.run_replies.specs.declared.status.Status.TheVariants.{NoMemory, ReadFault, WriteFault, Usage}
 use Rattle.run_replies.proofs.Endings.{tells_end}
 use Rattle.run_replies.proofs.Taking.{first_bytes_read, taken}
 
@@ -40,35 +35,6 @@ reads_world world (Some it) None rest bytes read is = tt
 reads_world world (Some it) (Some text) rest bytes read is = is ∙ ap (λ (it : Reading). (outcome_read it).world) (ap reading read.0 ∙ first_bytes_read text)
 
 -- where it can't be read
-
-pub unread_ends : (status : Status) (f g : ℕ) → IsUnread status f g → (reply : Reply) (now : Option (List ℕ)) (faults : ℕ) → Ends status reply now now faults faults
-unread_ends NoMemory f g cause reply now faults = no_part now reply.text
-unread_ends ReadFault f g cause reply now faults = nothing now
-unread_ends status f g cause reply now faults = absurd cause
-
-pub unread_left : (status : Status) (f g most : ℕ) → IsUnread status f g → (text : List ℕ) (rest : Option (List ℕ)) → IsTaken status most text rest
-unread_left NoMemory f g most cause text rest = tt
-unread_left ReadFault f g most cause text rest = tt
-unread_left status f g most cause text rest = absurd cause
-
-pub unread_not_done : (status : Status) (f g : ℕ) → IsUnread status f g → is_done status ≡ false
-unread_not_done NoMemory f g cause = refl
-unread_not_done ReadFault f g cause = refl
-unread_not_done status f g cause = absurd cause
-
-pub unread_rose : (status : Status) (f g : ℕ) → IsUnread status f g → status ≡ ReadFault → Rose f g
-unread_rose status f g cause is = subst (λ (s : Status). IsUnread s f g) is cause
-
-pub unread_not_usage : (status : Status) (f g : ℕ) → IsUnread status f g → status ≡ Usage → ⊥
-unread_not_usage status f g cause is = subst (λ (s : Status). IsUnread s f g) is cause
-
-pub unread_not_write : (status : Status) (f g : ℕ) → IsUnread status f g → status ≡ WriteFault → ⊥
-unread_not_write status f g cause is = subst (λ (s : Status). IsUnread s f g) is cause
-
--- what is told of every text, where there is one
-pub if_told : (P : List ℕ → Type 0) (left : Option (List ℕ)) → ((text : List ℕ) → P text) → IfSome left P
-if_told P None holds = tt
-if_told P (Some text) holds = holds text
 
 -- where none is asked for
 

@@ -43,31 +43,6 @@ one-reported sight subjects given (each ∷ others) it numbered is =
     ∙ ap (reported sight others) (told sight it each (each.serial == it.serial) (λ same. same_size sight each it (same_subject subjects given each it first is (eqb-true (each.serial) (it.serial) same))))
     ∙ again sight others it (each.serial == it.serial)
 
--- the targets once each delivered observation was reported
-abbrev pub each_reported : Sight → List Observation → List Observation → List Observation
-each_reported sight [] targets = targets
-each_reported sight (each ∷ others) targets = each_reported sight others (map (with_last (each.serial) (observed_size sight each)) targets)
-
 none-reported : (targets : List Observation) → map (λ (it : Observation). it) targets ≡ targets
 none-reported [] = refl
 none-reported (x ∷ xs) = ap (λ others. x ∷ others) (none-reported xs)
-
-map-twice : (f g : Observation → Observation) (xs : List Observation) → map f (map g xs) ≡ map (λ x. f (g x)) xs
-map-twice f g [] = refl
-map-twice f g (x ∷ xs) = ap (λ others. f (g x) ∷ others) (map-twice f g xs)
-
-each-once : (sight : Sight) (delivered targets : List Observation) → each_reported sight delivered targets ≡ map (once_each sight delivered) targets
-each-once sight [] targets = sym (none-reported targets)
-each-once sight (each ∷ others) targets =
-    each-once sight others (map (with_last (each.serial) (observed_size sight each)) targets)
-    ∙ map-twice (once_each sight others) (with_last (each.serial) (observed_size sight each)) targets
-
-each-broadcast : (sight : Sight) (subjects : ℕ → Subject) (given : ℕ) (delivered targets : List Observation) → All (IsNumbered subjects given) delivered → All (IsNumbered subjects given) targets → map (once_each sight delivered) targets ≡ map (reported sight delivered) targets
-each-broadcast sight subjects given delivered [] numbered are = refl
-each-broadcast sight subjects given delivered (it ∷ others) numbered are =
-    ap (λ first. first ∷ map (once_each sight delivered) others) (one-reported sight subjects given delivered it numbered (All-head (IsNumbered subjects given) it others are))
-    ∙ ap (λ rest. reported sight delivered it ∷ rest) (each-broadcast sight subjects given delivered others numbered (All-tail (IsNumbered subjects given) it others are))
-
--- reporting each delivered observation in turn gives the targets that the broadcast gives
-pub each_reported-broadcast : (sight : Sight) (subjects : ℕ → Subject) (given : ℕ) (delivered targets : List Observation) → All (IsNumbered subjects given) delivered → All (IsNumbered subjects given) targets → each_reported sight delivered targets ≡ map (reported sight delivered) targets
-each_reported-broadcast sight subjects given delivered targets numbered are = each-once sight delivered targets ∙ each-broadcast sight subjects given delivered targets numbered are

@@ -91,11 +91,6 @@ pub closed_passed : (bytes : List ℕ) (at : ℕ) (p : Places) (w : Option ℕ) 
 closed_passed bytes at p None start within = later_with bytes at p [] p.in_comment start within
 closed_passed bytes at p (Some from) start within = later_with bytes at (record p { words = p.words ++ span_of from at ∷ [] }) [] p.in_comment start within
 
--- no word is read behind one that ended
-pub closed_none : (at : ℕ) (p : Places) (w : Option ℕ) → (closed_from w at (record p { open_word = w })).open_word ≡ None
-closed_none at p None = refl
-closed_none at p (Some from) = refl
-
 pub closed_kept : (bytes : List ℕ) (at : ℕ) (p : Places) (w : Option ℕ) → All (LineFits bytes p.words) p.lines
     → kept_seen bytes (closed_from w at (record p { open_word = w })) ≡ kept_seen bytes p
 closed_kept bytes at p None fit = refl

@@ -124,8 +124,5 @@ numeral whole fraction unit text is small all bytes quiet =
       no_minus = minus_first first.0 first.1 text text_is tests.1;
     }
 
-minus_bytes : (text : List ℕ) → AreWordBytes text → AreWordBytes (45 ∷ text)
-minus_bytes text h = h
-
 abbrev pub minus_word : (text : List ℕ) → IsWord text → IsWord (45 ∷ text)
 minus_word text word = record { first = 45; others = text; text_is = refl; bytes = ap (list_all is_word_byte) word.text_is ∙ word.bytes; no_comment = refl }

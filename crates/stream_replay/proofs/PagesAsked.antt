@@ -66,13 +66,6 @@ pages_past source after feeds passes =
 pub reply_told : (status : Status) (one other : Reply) (before after : Option (List ℕ)) (f g : ℕ) → one ≡ other → Tells status one before after f g → Tells status other before after f g
 reply_told status one other before after f g is told = subst (λ (it : Reply). Tells status it before after f g) is told
 
--- the source that was read
-pub pages_end : (status : Status) (left : Option (List ℕ)) (bytes : List ℕ) (before after : Option (List ℕ)) (f g : ℕ) → IfSome left (λ source. bytes ≡ source)
-    → Tells status (pages_reply bytes) before after f g → IfSome left (λ source. Ends status (pages_reply source) before after f g)
-pages_end status None bytes before after f g all told = tt
-pages_end status (Some source) bytes before after f g all told =
-    tells_end status (pages_reply source) before after f g (subst (λ it. Tells status (pages_reply it) before after f g) all told)
-
 pub pages_end_past : (status : Status) (left rest : Option (List ℕ)) (feeds : ℕ) (before after : Option (List ℕ)) (f g : ℕ) → IfSome left (λ source. PassesLimit source rest 16777216 feeds)
     → Tells status (refused_with (LimitAt limits.Script (feeds + 1))) before after f g → IfSome left (λ source. Ends status (pages_reply source) before after f g)
 pages_end_past status None rest feeds before after f g passes told = tt
@@ -84,11 +77,6 @@ pub pages_taken : (status : Status) (left rest : Option (List ℕ)) (bytes : Lis
 pages_taken status None rest bytes all end fits = tt
 pages_taken status (Some source) rest bytes all end fits =
     taken status 16777217 source rest (end ∙ ap Some (sym (drop_all 16777217 source (omega (arith, fits, ap length all)))))
-
-pub pages_taken_past : (status : Status) (left rest : Option (List ℕ)) (feeds : ℕ) → IfSome left (λ source. PassesLimit source rest 16777216 feeds)
-    → IfSome left (λ source. IsTaken status 16777217 source rest)
-pages_taken_past status None rest feeds passes = tt
-pages_taken_past status (Some source) rest feeds passes = taken status 16777217 source rest passes.taken
 
 -- ---- each page as if it ran alone
 
@@ -112,11 +100,6 @@ past_alone status (Some source) rest feeds passes = λ whole accepted.
     let long : 16777216 < length source = passes.longer in
     let short : length source ≤ 16777216 = accepted.0 in
     absurd (omega arith)
-
--- and one of which not all was written
-pub unwhole_alone : (status : Status) (left : Option (List ℕ)) → is_whole status ≡ false → IfSome left (λ source. IsolatesPages status source)
-unwhole_alone status None part = tt
-unwhole_alone status (Some source) part = λ whole accepted. absurd (true≢false (sym whole ∙ part))
 
 -- the source that was read
 pub alone_end : (status : Status) (left : Option (List ℕ)) (bytes : List ℕ) → IfSome left (λ source. bytes ≡ source) → IsolatesPages status bytes → IfSome left (λ source. IsolatesPages status source)

@@ -263,13 +263,6 @@ turning_cut A B start parts place pages before mid after f fm g it part d page h
       unfailed = here.unfailed;
     }
 
-pub turning_end : {A : Type 0} {start : List PageRun} {parts : List Part} {place : ℕ} {pages : List StreamPage} {before now : Option (List ℕ)} {f g : ℕ} (value : A) → Turning start parts place pages before now f g
-    → length parts ≤ place → Wrote (Ok value) before now f g (parts_run start parts).text × (map seen_page pages ≡ (parts_run start parts).pages)
-turning_end {start = start} {parts = parts} {place = place} {pages = pages} {before = before} {now = now} value here past =
-    let end : record { text = here.text; pages = map seen_page pages } ≡ parts_run start parts =
-    ap (λ ps. fold stream_step (record { text = here.text; pages = map seen_page pages }) ps) (sym (drop_all place parts past)) ∙ here.so_far in
-    ((subst (λ (t : List ℕ). Appends before now t) (ap (λ (r : StreamRun). r.text) end) here.written, here.unfailed), ap (λ (r : StreamRun). r.pages) end)
-
 pub turning_fit : {start : List PageRun} {parts : List Part} {place : ℕ} {pages : List StreamPage} {before now : Option (List ℕ)} {f g : ℕ} → Turning start parts place pages before now f g → length parts ≤ place
     → All IsOneLine (lines_from start parts)
 turning_fit {parts = parts} {place = place} {pages = pages} here past =

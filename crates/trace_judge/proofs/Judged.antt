@@ -29,10 +29,6 @@ abbrev pub behind : ℕ → Judgement → Judgement
 behind equal (Equal lines) = Equal (equal + lines)
 behind equal (Differs line how) = Differs (equal + line) how
 
-pub behind_none : (j : Judgement) → j ≡ behind 0 j
-behind_none (Equal lines) = let same : lines ≡ 0 + lines = omega arith in ap Equal same
-behind_none (Differs line how) = let same : line ≡ 0 + line = omega arith in ap (λ n. Differs n how) same
-
 behind_both : (n m : ℕ) (j : Judgement) → behind n (behind m j) ≡ behind (n + m) j
 behind_both n m (Equal lines) = let same : n + (m + lines) ≡ n + m + lines = omega arith in ap Equal same
 behind_both n m (Differs line how) = let same : n + (m + line) ≡ n + m + line = omega arith in ap (λ k. Differs k how) same
@@ -109,9 +105,6 @@ pub record Judging (expected recorded e r : List ℕ) (lines : ℕ) : Type 0 whe
   pub so_far : judgement expected recorded ≡ behind lines (judgement e r)
   pub few_expected : lines + length e ≤ length expected
   pub few_recorded : lines + length r ≤ length recorded
-
-pub judging_none : (expected recorded : List ℕ) → Judging expected recorded expected recorded 0
-judging_none expected recorded = record { so_far = behind_none (judgement expected recorded); few_expected = omega arith; few_recorded = omega arith }
 
 -- a first line is empty exactly where nothing is left
 pub left_none : (text : List ℕ) → length (first_line text) ≤ 0 → length text ≤ 0

@@ -25,10 +25,6 @@ no_part now text = record { part = []; rest = text; whole = refl; written = noth
 pub part_begins : {before after : Option (List ℕ)} {x : List ℕ} (y : List ℕ) → AppendsPart before after x → AppendsPart before after (x ++ y)
 part_begins y it = record { part = it.part; rest = it.rest ++ y; whole = ap (λ l. l ++ y) it.whole ∙ append_assoc it.part it.rest y; written = it.written }
 
--- a whole text is a part of a longer one
-pub whole_begins : (before after : Option (List ℕ)) (x y : List ℕ) → Appends before after x → AppendsPart before after (x ++ y)
-whole_begins before after x y written = record { part = x; rest = y; whole = refl; written = written }
-
 -- a part of a second text behind the whole first
 pub part_behind : {mid after : Option (List ℕ)} {y : List ℕ} (before : Option (List ℕ)) (x : List ℕ) → Appends before mid x → AppendsPart mid after y → AppendsPart before after (x ++ y)
 part_behind {mid} {after} before x first it = record {

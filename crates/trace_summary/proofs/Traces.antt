@@ -139,13 +139,3 @@ module _ (feed : FeedLaw) where
       no_left [] it = let e = ap length it.makes in omega arith
       no_left (x ∷ xs) it =
           let is_x = All-head IsLine x xs it.fit in none x is_x (sym (line_first x is_x (bytes_of xs)) ∙ ap first_line it.makes)
-
--- no byte is left
-pub counted_all : {trace rest : List ℕ} {summary : Summary} → Counted trace rest summary → length rest ≤ 0
-    → (lines : List TraceLine) × IsTrace trace lines × (summary ≡ summary_of lines)
-counted_all {trace} {rest} so_far none =
-    (so_far.done, record { fit = so_far.fit; makes = sym (append-nil (bytes_of so_far.done)) ∙ ap (λ back. bytes_of so_far.done ++ back) (sym (no_bytes rest none)) ∙ so_far.makes }, so_far.counts)
-  where
-    no_bytes : (bytes : List ℕ) → length bytes ≤ 0 → bytes ≡ []
-    no_bytes [] few = refl
-    no_bytes (b ∷ bs) few = absurd (omega arith)
