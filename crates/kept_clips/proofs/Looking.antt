@@ -106,7 +106,5 @@ module _ (scene : Scene) where
     added = λ spot added. two.added spot (one.added spot added);
   }
 
-  ]
-
   pub may_after : (before now : Seen) (was held : HeldClips) (spot : Container) → Looked scene before now was held → MayBeSeen before was spot → MayBeSeen now held spot
   may_after before now was held spot looked may = record { room = looked.room spot may.room; added = looked.added spot may.added }
