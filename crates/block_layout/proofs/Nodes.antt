@@ -1,5 +1,5 @@
 -- What layout sees of a node, by what the tree's calls tell of it.
-use Rattle.std.proofs.Common.{◌≡◌, ℕ, Bool, true, false, cond, List, [], Option, Some, None, option_map, ap, refl, sym, ◌∙◌}
+use Rattle.std.proofs.Common.{◌≡◌, ℕ, Bool, true, false, cond, List, [], Option, Some, None, option_map, ap, refl, sym, ◌∙◌, ◌⊎◌, inl, inr}
 use Rattle.std.specs.Prelude.{slice_get, ◌&&◌, ◌||◌, not, is_some}
 use Rattle.layout_model.specs.Styles.{Style, Position, StaticPosition}
 use Rattle.layout_model.specs.Items.{Item, Kind, BlockKind, ImageKind, FrameKind}
@@ -9,8 +9,12 @@ use Rattle.layout_model.specs.Clips.{clips, is_block, is_visible}
 use Rattle.element_tree.specs.declared.node.NodeId.{NodeId}
 use Rattle.element_tree.specs.Links.{node_ids}
 use Rattle.element_tree.specs.Forest.{Knot, parent_of, children_of, parent_in, children_in}
+use Rattle.px_units.specs.declared.Size.{Size}
 use Rattle.block_layout.specs.Filling.{inputs_if_block}
 use Rattle.block_layout.specs.Trees.{layout_tree, node_in}
+use Rattle.block_layout.specs.Seen.{seen_kind}
+use Rattle.block_layout.specs.declared.ItemKind.{ItemKind}
+use Rattle.block_layout.specs.declared.ItemKind.TheVariants.{Image, Frame}
 
 inner_leaf : (kind : Kind) (children : List ℕ) → is_block kind ≡ false → inner_children kind children ≡ []
 inner_leaf BlockKind children leaf = cc
@@ -21,6 +25,11 @@ none_in : (kind : Kind) (item : Item) (found : Option Inputs) → is_block kind 
 none_in BlockKind item found leaf = cc
 none_in (ImageKind width height) item found leaf = refl
 none_in FrameKind item found leaf = refl
+
+-- an image or a frame is no block
+pub no_block : (kind : ItemKind) → ((natural : Size) × (kind ≡ Image natural)) ⊎ (kind ≡ Frame) → is_block (seen_kind kind) ≡ false
+no_block kind (inl image) = ap (λ k. is_block (seen_kind k)) image.1
+no_block kind (inr frame) = ap (λ k. is_block (seen_kind k)) frame
 
 pub some_ids : (o : Option ℕ) → is_some (node_ids o) ≡ is_some o
 some_ids None = refl

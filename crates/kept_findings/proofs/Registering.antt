@@ -8,7 +8,6 @@ use Rattle.std.specs.Prelude.{replicate}
 use Rattle.std.proofs.lemmas.List.{length-replicate}
 use Rattle.script_model.specs.Margins.{Margins}
 use Rattle.page_model.specs.World.{IntersectionObservers}
-use Rattle.element_tree.specs.declared.container.Container.{Container}
 use Rattle.intersection_observer.specs.Places.{Standing as Place, standing_of}
 use Rattle.kept_clips.specs.declared.pair.Pair.{Pair}
 use Rattle.kept_clips.specs.Held.{spots_of as spots_in}
@@ -76,4 +75,3 @@ still : {A : Type 0} (xs ys : List A) (n : ℕ) → n < length xs → n < length
 still xs ys n h = omega (arith, h, length-append xs ys)
 
 -- what becomes of room by both calls that make it
-module _ (of : Container) where

@@ -3,7 +3,7 @@ use Rattle.std.proofs.Common.{◌≡◌, ℕ, true, false, ◌∷◌, refl, ap, 
 use Rattle.std.specs.Prelude.{not}
 use Rattle.std.proofs.lemmas.Bool.{false≢true}
 use Rattle.layout_model.specs.Styles.{Position, StaticPosition, RelativePosition, AbsolutePosition, FixedPosition}
-use Rattle.layout_model.specs.Nodes.{Node, position_of, is_static, is_positioned, is_flow, is_in_flow, IsShallow}
+use Rattle.layout_model.specs.Nodes.{Node, position_of, is_static, is_positioned, is_flow, is_in_flow}
 
 static : (position : Position) → not (is_static position) ≡ false → position ≡ StaticPosition
 static StaticPosition is = refl
@@ -16,5 +16,3 @@ static_unpositioned at n is = static (position_of (at n)) is
 
 pub in_flow_unpositioned : (at : ℕ → Node) (n : ℕ) → is_positioned (at n) ≡ false → is_in_flow (at n) ≡ true
 in_flow_unpositioned at n is = ap is_flow (static_unpositioned at n is)
-
-module _ (at : ℕ → Node) (shallow : IsShallow at) where

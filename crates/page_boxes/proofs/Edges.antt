@@ -21,11 +21,8 @@ use Rattle.layout_model.proofs.Farthest.{edges_within}
 use Rattle.layout_model.proofs.Reaches.{reach_is, view_is, capped_order, reached, reached_in_view}
 use Rattle.layout_model.proofs.Trees.{contains_next}
 use Rattle.element_tree.specs.Forest.{has}
-use Rattle.page_model.specs.World.{Extent}
 use Rattle.page_model.specs.Documents.{is_number}
-use Rattle.page_model.specs.Scrolls.{lesser_extent}
 use Rattle.page_model.specs.PageBoxes.{view_with}
-use Rattle.scrolling.specs.Seen.{point_of}
 use Rattle.block_layout.specs.Seen.{as_size, as_point}
 use Rattle.kept_layout.specs.declared.slots.Slot.{Slot}
 use Rattle.kept_layout.specs.Slots.{held_in}
@@ -40,8 +37,6 @@ use Rattle.page_boxes.proofs.Reaching.{range_found}
 
 pub nothing_within : (far : ℕ × ℕ) → IsWithin (0, 0) far
 nothing_within far = (omega arith, omega arith)
-
-module _ (position : Extent) (found : Point) (is : found ≡ point_of (lesser_extent position (record { across = 2147483647; down = 2147483647 }))) where
 
 -- the edges of a border box
 pub edges_are : (across down : ℕ) (border : Size) (from : Point) (box : ℕ × ℕ) (found : Size) → border ≡ as_size box

@@ -11,5 +11,3 @@ module _ {A B : Type 0} (next : A → Step B) where
   pub then_threw : (step : Step A) (exception : ThrowKind) → step ≡ Threw exception → (step >>= next) ≡ Threw exception
   unfolding ◌>>=◌
   then_threw step exception e = ap (λ it. it >>= next) e
-
-module _ {A B : Type 0} (next : Step B) where

@@ -1,7 +1,7 @@
-use Rattle.std.proofs.Common.{◌≡◌, false, Some, option_map, inl, inr, ap, sym, ◌∙◌}
+use Rattle.std.proofs.Common.{Some, option_map, ap, sym, ◌∙◌}
 use Rattle.layout_model.specs.Clips.{is_block}
 use Rattle.block_layout.specs.Seen.{seen_inputs, seen_kind}
-use Rattle.block_layout.proofs.Nodes.{handed_block, handed_leaf}
+use Rattle.block_layout.proofs.Nodes.{handed_block, handed_leaf, no_block}
 use Rattle.block_layout.proofs.held.inputs_within.Goals as goal
 
 pub returns-in-Some-clause-value : goal.returns-in-Some-clause-value
@@ -11,12 +11,8 @@ returns-in-Some-clause-value g c =
 
 pub returns-in-Image : goal.returns-in-Image
 returns-in-Image g c =
-    let leaf : is_block (seen_kind c.kind.result) ≡ false = elim c.in-Image.is [
-      | inl image ↦ ap (λ k. is_block (seen_kind k)) image.1
-      | inr frame ↦ ap (λ k. is_block (seen_kind k)) frame
-    ] in
     record {
       value = handed_leaf g.P.Styled.style g.P.Styled.kind c.args.tree.now.nodes (c.args.node.0) _ c.payload-item.ensures.value
-          (ap is_block (sym c.kind.ensures) ∙ leaf) _;
+          (ap is_block (sym c.kind.ensures) ∙ no_block _ c.in-Image.is) _;
       forest = c.payload-item.ensures.forest;
     }

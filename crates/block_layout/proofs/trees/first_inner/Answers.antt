@@ -1,10 +1,10 @@
-use Rattle.std.proofs.Common.{◌≡◌, false, inl, inr, ap, sym, ◌∙◌}
+use Rattle.std.proofs.Common.{ap, sym, ◌∙◌}
 use Rattle.layout_model.specs.Boxes.{inner_children}
 use Rattle.layout_model.specs.Clips.{is_block}
 use Rattle.element_tree.specs.Forest.{first_of, children_of}
 use Rattle.element_tree.specs.Links.{node_ids}
 use Rattle.block_layout.specs.Seen.{seen_kind}
-use Rattle.block_layout.proofs.Nodes.{kids_is, kids_leaf}
+use Rattle.block_layout.proofs.Nodes.{kids_is, kids_leaf, no_block}
 use Rattle.block_layout.proofs.trees.first_inner.Goals as goal
 
 pub returns-in-Block-clause-value : goal.returns-in-Block-clause-value
@@ -18,15 +18,11 @@ returns-in-Block-clause-value g c =
 
 pub returns-in-Image : goal.returns-in-Image
 returns-in-Image g c =
-    let leaf : is_block (seen_kind c.kind.result) ≡ false = elim c.in-Image.is [
-      | inl image ↦ ap (λ k. is_block (seen_kind k)) image.1
-      | inr frame ↦ ap (λ k. is_block (seen_kind k)) frame
-    ] in
     record {
       value = sym
           (ap
           (λ xs. node_ids (first_of xs))
           (kids_leaf g.P.Styled.style g.P.Styled.kind c.args.tree.now.nodes (c.args.node.0) _ c.payload.ensures.value
-          (ap is_block (sym c.kind.ensures) ∙ leaf)));
+          (ap is_block (sym c.kind.ensures) ∙ no_block _ c.in-Image.is)));
       forest = c.payload.ensures.forest;
     }

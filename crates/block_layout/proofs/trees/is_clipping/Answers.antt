@@ -1,10 +1,10 @@
-use Rattle.std.proofs.Common.{◌≡◌, false, inl, inr, refl, ap, sym, ◌∙◌}
+use Rattle.std.proofs.Common.{false, refl, ap, sym, ◌∙◌}
 use Rattle.std.specs.Prelude.{◌&&◌, not, is_some}
 use Rattle.layout_model.specs.Clips.{is_block, is_visible}
 use Rattle.element_tree.specs.Forest.{parent_of}
 use Rattle.element_tree.specs.Links.{node_ids}
 use Rattle.block_layout.specs.Seen.{seen_kind}
-use Rattle.block_layout.proofs.Nodes.{some_ids, clips_block, clips_leaf}
+use Rattle.block_layout.proofs.Nodes.{some_ids, clips_block, clips_leaf, no_block}
 use Rattle.block_layout.proofs.trees.is_clipping.Goals as goal
 
 pub returns-then-is_cut-clause-value : goal.returns-then-is_cut-clause-value
@@ -25,12 +25,8 @@ returns-else-is_cut-clause-value g c =
 
 pub returns-in-Image : goal.returns-in-Image
 returns-in-Image g c =
-    let leaf : is_block (seen_kind c.kind.result) ≡ false = elim c.in-Image.is [
-      | inl image ↦ ap (λ k. is_block (seen_kind k)) image.1
-      | inr frame ↦ ap (λ k. is_block (seen_kind k)) frame
-    ] in
     record {
       value = clips_leaf g.P.Styled.style g.P.Styled.kind c.args.tree.now.nodes (c.args.node.0) _ c.payload-item.ensures.value
-          (ap is_block (sym c.kind.ensures) ∙ leaf);
+          (ap is_block (sym c.kind.ensures) ∙ no_block _ c.in-Image.is);
       forest = c.payload-item.ensures.forest;
     }

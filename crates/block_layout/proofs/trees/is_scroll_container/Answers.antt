@@ -1,6 +1,7 @@
-use Rattle.std.proofs.Common.{◌≡◌, false, inl, inr, ap, sym, ◌∙◌}
+use Rattle.std.proofs.Common.{false, ap, sym, ◌∙◌}
 use Rattle.layout_model.specs.Clips.{is_block}
 use Rattle.block_layout.specs.Seen.{seen_kind}
+use Rattle.block_layout.proofs.Nodes.{no_block}
 use Rattle.block_layout.proofs.Scrollers.{scroller_block, scroller_shut, scroller_leaf}
 use Rattle.block_layout.proofs.trees.is_scroll_container.Goals as goal
 
@@ -18,12 +19,8 @@ returns-else-is_scrollable-clause-value g c =
 
 pub returns-in-Image : goal.returns-in-Image
 returns-in-Image g c =
-    let leaf : is_block (seen_kind c.kind.result) ≡ false = elim c.in-Image.is [
-      | inl image ↦ ap (λ k. is_block (seen_kind k)) image.1
-      | inr frame ↦ ap (λ k. is_block (seen_kind k)) frame
-    ] in
     record {
       value = scroller_leaf g.P.Styled.style g.P.Styled.kind c.args.tree.now.nodes (c.args.node.0) _ c.payload-item.ensures.value
-          (ap is_block (sym c.kind.ensures) ∙ leaf);
+          (ap is_block (sym c.kind.ensures) ∙ no_block _ c.in-Image.is);
       forest = c.payload-item.ensures.forest;
     }
