@@ -1,0 +1,12 @@
+use Rattle.std.proofs.Common.{◌≡◌, ◌∙◌, ap, sym, false}
+use Rattle.stream_runs.specs.PageRuns.{Turn}
+use Rattle.stream_replay.specs.StreamPages.{begins}
+use Rattle.stream_replay.proofs.Turning.{nothing_said, turn_over, turn_passed}
+use Rattle.stream_replay.proofs.stream_page.turn.Goals as goal
+
+pub returns-in_default-clause-lines : goal.returns-in_default-clause-lines
+returns-in_default-clause-lines g c =
+    nothing_said c.args.gathered.now.taken _ _ c.requires.empty (turn_over c.args.line c.args.standing.now c.in_default.not-Running)
+
+pub returns-in_default-clause-standing : goal.returns-in_default-clause-standing
+returns-in_default-clause-standing g c = ap (λ (turn : Turn). turn.standing) (sym (turn_over c.args.line c.args.standing.now c.in_default.not-Running))
