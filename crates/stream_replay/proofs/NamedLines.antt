@@ -36,10 +36,10 @@ named_none name [] none = refl
 named_none name (b ∷ bs) none = absurd (omega arith)
 
 -- the fault of a step, handed on
-pub stopped : (r : Result (Unit {0}) RunFault) (it : RunFault) {before after : Option (List ℕ)} {f g : ℕ} {text : List ℕ} → IsErr r × IsErrAnd r (λ (e : RunFault). e ≡ it)
+pub stopped : (r : Result (Unit {0}) RunFault) (it : RunFault) (before after : Option (List ℕ)) (f g : ℕ) (text : List ℕ) → IsErr r × IsErrAnd r (λ (e : RunFault). e ≡ it)
     → Wrote {A = Unit {0}} (Err it) before after f g text → Wrote r before after f g text
-stopped (Ok done) it is wrote = absurd (cc)
-stopped (Err e) it {before} {after} {f} {g} {text} is wrote = subst (λ (e : RunFault). Wrote {A = Unit {0}} (Err e) before after f g text) (sym is.1) wrote
+stopped (Ok done) it before after f g text is wrote = absurd (cc)
+stopped (Err e) it before after f g text is wrote = subst (λ (e : RunFault). Wrote {A = Unit {0}} (Err e) before after f g text) (sym is.1) wrote
 
 -- ---- while they are written
 

@@ -1,6 +1,6 @@
 -- The turn of a page at one of its lines.
-use Rattle.std.proofs.Common.{◌≡◌, ◌∙◌, refl, sym, ap, subst, ℕ, zero, suc, ◌+◌, ◌<◌, Bool, true, false, cond, List, [], ◌∷◌, ◌++◌, length, map, drop, get_or, Option, arith}
-use Rattle.std.specs.Prelude.{◌==◌, Some, None, slice_get}
+use Rattle.std.proofs.Common.{◌≡◌, ◌∙◌, refl, sym, ap, subst, ℕ, zero, suc, ◌+◌, ◌<◌, true, false, cond, List, [], ◌∷◌, length, map, drop, get_or, Option, arith}
+use Rattle.std.specs.Prelude.{Some, None, slice_get}
 use Rattle.std.proofs.lemmas.Bool.{false≢true}
 use Rattle.std.proofs.lemmas.List.Elements.{All-nil}
 use Rattle.text_io.specs.declared.kinds.LimitKind.{LimitKind}
@@ -18,7 +18,7 @@ use Rattle.trace_text.specs.Ranges.{IsLine}
 use Rattle.trace_runs.specs.Runs as Run
 use Rattle.trace_runs.specs.Writes.{Says}
 use Rattle.trace_summary.specs.Counts.{IsTrace}
-use Rattle.stream_runs.specs.PageRuns.{Standing as PageStanding, Going, Over, Turn, passed, stands_by, went_on, item_line, turn_at}
+use Rattle.stream_runs.specs.PageRuns.{Standing as PageStanding, Going, Over, Turn, passed, stands_by, went_on, turn_at}
 use Rattle.stream_replay.specs.StreamPages.{seen_standing, item_begins}
 use Rattle.stream_replay.specs.declared.stream_page.Running.{Running}
 use Rattle.stream_replay.specs.declared.stream_page.Standing.{Standing}

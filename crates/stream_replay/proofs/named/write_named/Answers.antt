@@ -1,4 +1,4 @@
-use Rattle.std.proofs.Common.{◌∙◌, ◌<◌, ◌≤◌, ap, length, arith, rules}
+use Rattle.std.proofs.Common.{◌<◌, ◌≤◌, ap, length, arith, rules}
 use Rattle.std.specs.Prelude.{Ok, Err}
 use Rattle.trace_summary.proofs.Splits.{behind_shorter}
 use Rattle.stream_replay.proofs.NamedLines.{stopped, named_lines, named_begun, named_more, named_cut, named_end, named_wrote}
@@ -20,7 +20,7 @@ loop-rest-smaller g c =
 pub returns-in_err-write_line : goal.returns-in_err-write_line
 returns-in_err-write_line g c = λ lines is.
     let some : 0 < length c.loop-rest.rest.now = search rules in
-    stopped c.from_residual.result c.in_err-write_line.field-0.0 c.from_residual.ensures
+    stopped c.from_residual.result c.in_err-write_line.field-0.0 _ _ _ _ _ c.from_residual.ensures
     (named_wrote {A = Unit {0}} (Err c.in_err-write_line.field-0.0) c.args.name.now c.args.trace.now lines _ _ _ _ c.line_ends_once.ensures is
     (named_cut (Unit {0}) (Unit {0}) _ _ _ _ _ _ (named_lines c.args.name.now c.args.trace.now) c.split_line.result.0.now c.in_err-write_line.field-0.0 c.args.name.now c.loop-rest.rest.now c.loop-rest.invariant some c.split_line.ensures.line c.in_err-write_line.ensures))
 

@@ -21,7 +21,7 @@ pub returns-in_err-text-clause-wrote : goal.returns-in_err-text-clause-wrote
 returns-in_err-text-clause-wrote g c =
     let long = ap length c.pages-names.ensures in
     let inside : c.loop-place.place < length (pages_of c.args.stream.now) = omega arith in
-    stopped c.from_residual.result c.in_err-text.field-0.0 c.from_residual.ensures
+    stopped c.from_residual.result c.in_err-text.field-0.0 _ _ _ _ _ c.from_residual.ensures
     (opening_cut (Unit {0}) (Unit {0}) c.args.stream.now c.loop-place.place c.loop-place.pages.items _ _ _ _ _ _ c.in_err-text.field-0.0 (get_or (pages_of c.args.stream.now) c.loop-place.place []) [] c.loop-place.invariant inside refl
     (memory_cut c.in_err-text.field-0.0 _ _ _ (let memory = c.in_err-text.ensures.memory in let is : c.in_err-text.field-0.0 ≡ Memory = cc in is)))
 
@@ -31,7 +31,7 @@ returns-in_err-open_page-clause-wrote g c =
     let inside : c.loop-place.place < length (pages_of c.args.stream.now) = omega arith in
     let is : c.index-names-place.result ≡ get_or (pages_of c.args.stream.now) c.loop-place.place c.index-names-place.result =
     c.index-names-place.is ∙ ap (λ (names : List (List ℕ)). get_or names c.loop-place.place c.index-names-place.result) c.pages-names.ensures in
-    stopped c.from_residual-in_err-open_page.result c.in_err-open_page.field-0.0 c.from_residual-in_err-open_page.ensures
+    stopped c.from_residual-in_err-open_page.result c.in_err-open_page.field-0.0 _ _ _ _ _ c.from_residual-in_err-open_page.ensures
     (opening_cut (Unit {0}) (Unit {0}) c.args.stream.now c.loop-place.place c.loop-place.pages.items _ _ _ _ _ _ c.in_err-open_page.field-0.0 c.index-names-place.result c.index-names-place.result c.loop-place.invariant inside is
     (subst (λ (read : Reading). Wrote {A = Unit {0}} (Err c.in_err-open_page.field-0.0) (g.K.Sink.taken c.loop-place.sink) (g.K.Sink.taken c.open_page.new.sink) (g.K.Sink.faults c.loop-place.sink) (g.K.Sink.faults c.open_page.new.sink)
     (refused_text (record { name = c.index-names-place.result; read = read }))) c.in_ok-text.ensures.text c.in_err-open_page.ensures.wrote))

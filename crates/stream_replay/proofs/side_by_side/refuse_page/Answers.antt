@@ -10,7 +10,7 @@ use Rattle.stream_replay.proofs.side_by_side.refuse_page.Goals as goal
 
 pub returns-in_err-push_page-clause-wrote : goal.returns-in_err-push_page-clause-wrote
 returns-in_err-push_page-clause-wrote g c =
-    stopped c.from_residual.result c.in_err-push_page.field-0.0 c.from_residual.ensures
+    stopped c.from_residual.result c.in_err-push_page.field-0.0 _ _ _ _ _ c.from_residual.ensures
     (memory_cut c.in_err-push_page.field-0.0 _ _ _ (let memory = c.in_err-push_page.ensures.err in let is : c.in_err-push_page.field-0.0 ≡ Memory = cc in is))
 
 pub returns-clause-wrote : goal.returns-clause-wrote

@@ -14,7 +14,7 @@ pub returns-in_err-take_turn-clause-wrote : goal.returns-in_err-take_turn-clause
 returns-in_err-take_turn-clause-wrote g c =
     let d : Part = record { line = 0; page = 0; from = 0; to = 0 } in
     let place : ℕ = (get_or c.args.parts.now c.loop-part.part-index d).page in
-    stopped c.from_residual.result c.in_err-take_turn.field-0.0 c.from_residual.ensures
+    stopped c.from_residual.result c.in_err-take_turn.field-0.0 _ _ _ _ _ c.from_residual.ensures
     (turning_cut (Unit {0}) (Unit {0}) (map seen_page c.args.pages.now) c.args.parts.now c.loop-part.part-index c.loop-part.pages _ _ _ _ _ _ c.in_err-take_turn.field-0.0 (get_or c.args.parts.now c.loop-part.part-index d) d
     (get_or c.loop-part.pages place c.index-pages-part.result) c.loop-part.invariant c.loop-part-test.true refl (page_at c.loop-part.pages place c.index-pages-part.result c.if-part-pages.true) c.in_err-take_turn.ensures.wrote)
 

@@ -1,4 +1,4 @@
-use Rattle.std.proofs.Common.{◌≡◌, ap, ℕ, ◌<◌, length}
+use Rattle.std.proofs.Common.{◌≡◌, ◌<◌, length}
 use Rattle.std.specs.Prelude.{Some, slice_get}
 use Rattle.script_syntax.specs.Seen.{item_of}
 use Rattle.stream_replay.proofs.Turning.{item_there, begins_inside, ended_lines, ended_standing, limit_lines, limit_standing}

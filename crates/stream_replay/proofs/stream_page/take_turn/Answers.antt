@@ -9,7 +9,7 @@ use Rattle.stream_replay.proofs.stream_page.take_turn.Goals as goal
 
 pub returns-in_err-turn-clause-wrote : goal.returns-in_err-turn-clause-wrote
 returns-in_err-turn-clause-wrote g c =
-    stopped c.from_residual.result c.in_err-turn.field-0.0 c.from_residual.ensures
+    stopped c.from_residual.result c.in_err-turn.field-0.0 _ _ _ _ _ c.from_residual.ensures
     (memory_cut c.in_err-turn.field-0.0 _ _ _ (let memory = c.in_err-turn.ensures.memory in let is : c.in_err-turn.field-0.0 ≡ Memory = cc in is))
 
 pub returns-clause-lines : goal.returns-clause-lines

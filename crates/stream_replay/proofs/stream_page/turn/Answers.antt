@@ -1,6 +1,5 @@
-use Rattle.std.proofs.Common.{◌≡◌, ◌∙◌, ap, sym, false}
+use Rattle.std.proofs.Common.{◌∙◌, ap, sym}
 use Rattle.stream_runs.specs.PageRuns.{Turn}
-use Rattle.stream_replay.specs.StreamPages.{begins}
 use Rattle.stream_replay.proofs.Turning.{nothing_said, turn_over, turn_passed}
 use Rattle.stream_replay.proofs.stream_page.turn.Goals as goal
 
@@ -10,3 +9,15 @@ returns-in_default-clause-lines g c =
 
 pub returns-in_default-clause-standing : goal.returns-in_default-clause-standing
 returns-in_default-clause-standing g c = ap (λ (turn : Turn). turn.standing) (sym (turn_over c.args.line c.args.standing.now c.in_default.not-Running))
+
+pub returns-then-not-next_begins-clause-lines : goal.returns-then-not-next_begins-clause-lines
+returns-then-not-next_begins-clause-lines g c =
+    rw c.in-Running.is
+    (nothing_said c.args.gathered.now.taken _ _ c.requires.empty
+    (turn_passed c.args.line c.in-Running.running.script.items c.in-Running.running.next c.in-Running.running.page.world (sym c.next_begins.ensures ∙ c.if-not-next_begins.true)))
+
+pub returns-then-not-next_begins-clause-standing : goal.returns-then-not-next_begins-clause-standing
+returns-then-not-next_begins-clause-standing g c =
+    rw c.in-Running.is
+    (ap (λ (turn : Turn). turn.standing)
+    (sym (turn_passed c.args.line c.in-Running.running.script.items c.in-Running.running.next c.in-Running.running.page.world (sym c.next_begins.ensures ∙ c.if-not-next_begins.true))))
