@@ -1,8 +1,8 @@
 use Rattle.std.proofs.Common.{arith, refl}
 use Rattle.trace_runs.proofs.Following.{begin, rest_same, go_on, end_cut, done}
 use Rattle.trace_runs.proofs.Loops.{each_more, each_none}
-use Rattle.frame_update.proofs.Stopped.{stopped_run}
 use Rattle.script_items.proofs.Playing.{items_are}
+use Rattle.script_items.proofs.Stopped.{stopped_run}
 use Rattle.script_items.proofs.items.play.Goals as goal
 
 pub loop-item-init : goal.loop-item-init

@@ -1,6 +1,6 @@
 use Rattle.std.proofs.Common.{refl}
 use Rattle.trace_runs.proofs.Runs.{caught_cut, caught_ended}
-use Rattle.frame_update.proofs.Stopped.{stopped_run}
+use Rattle.script_items.proofs.Stopped.{stopped_run}
 use Rattle.script_items.proofs.items.run_caught.Goals as goal
 
 pub returns-in_err-run_command : goal.returns-in_err-run_command

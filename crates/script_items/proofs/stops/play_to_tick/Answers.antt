@@ -2,8 +2,8 @@ use Rattle.std.proofs.Common.{◌+◌, ap, arith, refl, sym}
 use Rattle.script_model.specs.Scripts.{handlers_in}
 use Rattle.page_model.specs.Outcome.{run_item}
 use Rattle.trace_runs.proofs.Following.{begin, rest_same, go_on, end_cut, done}
-use Rattle.frame_update.proofs.Stopped.{stopped_run}
 use Rattle.script_items.specs.Stops.{tick_count}
+use Rattle.script_items.proofs.Stopped.{stopped_run}
 use Rattle.script_items.proofs.Stopping.{all_here, none_left, no_items, one_more, ticks_more, ticks_none}
 use Rattle.script_items.proofs.stops.play_to_tick.Goals as goal
 
