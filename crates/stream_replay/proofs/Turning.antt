@@ -115,7 +115,7 @@ turn_over line standing.LimitMet none = refl
 -- nothing is said then
 pub nothing_said : (taken : List ℕ) (turn : Turn) (standing : PageStanding) → taken ≡ [] → turn ≡ passed standing → IsTrace taken turn.lines
 unfolding bytes_of
-nothing_said taken turn standing none is =
+nothing_said taken it standing none is =
     subst (λ (t : Turn). IsTrace taken t.lines) (sym is) (record { fit = All-nil IsLine; makes = sym none })
 
 -- where an item begins there is one

@@ -48,7 +48,7 @@ returns-in-Err-ScriptLimit-clause-lines g c =
 
 pub returns-in-Err-Syntax-clause-pages : goal.returns-in-Err-Syntax-clause-pages
 returns-in-Err-Syntax-clause-pages g c =
-    let read = rw c.in-Err-Syntax.field-0-is at c.in-Err-Syntax.ensures in
+    let read = rw c.in-Err-Syntax.field-0-is at c.in-Err-Syntax.ensures.value in
     seen_more c.refuse_page.result _ _ _ _ c.refuse_page.ensures.pages (refused_is c.args.name (reading c.args.text) (SyntaxAt c.in-Err-Syntax.line c.in-Err-Syntax.column) read)
 
 pub returns-in-Err-Syntax-clause-ready : goal.returns-in-Err-Syntax-clause-ready
@@ -56,7 +56,7 @@ returns-in-Err-Syntax-clause-ready g c = ready_more c.refuse_page.result _ _ _ c
 
 pub returns-in-Err-ScriptLimit-clause-pages : goal.returns-in-Err-ScriptLimit-clause-pages
 returns-in-Err-ScriptLimit-clause-pages g c =
-    let read = rw c.in-Err-ScriptLimit.field-0-is at c.in-Err-ScriptLimit.ensures in
+    let read = rw c.in-Err-ScriptLimit.field-0-is at c.in-Err-ScriptLimit.ensures.value in
     seen_more c.refuse_page-in-Err-ScriptLimit.result _ _ _ _ c.refuse_page-in-Err-ScriptLimit.ensures.pages
     (refused_is c.args.name (reading c.args.text) (LimitAt c.in-Err-ScriptLimit.kind c.in-Err-ScriptLimit.line) read)
 
