@@ -1,5 +1,4 @@
 pub mod NamedLines
 pub mod Turning
 pub mod SideBySide
-pub mod NoItems
 pub mod PagesAsked

@@ -3,6 +3,7 @@ use Rattle.std.proofs.Common.{◌≡◌, ◌∙◌, refl, sym, ap, subst, ℕ, �
 use Rattle.std.specs.Prelude.{flat_map, Result, Ok, Err}
 use Rattle.std.specs.Io.KnownBytes.{Appends}
 use Rattle.std.specs.List.{All}
+use Rattle.std.specs.Result.{IsErr, IsErrAnd}
 use Rattle.std.proofs.lemmas.List.{append-nil}
 use Rattle.std.proofs.lemmas.List.Elements.{All-head, All-tail}
 use Rattle.script_model.specs.TraceLines.{TraceLine}
@@ -33,6 +34,12 @@ named_none : (name text : List ℕ) → length text ≤ 0 → named_lines name t
 unfolding lines_of
 named_none name [] none = refl
 named_none name (b ∷ bs) none = absurd (omega arith)
+
+-- the fault of a step, handed on
+pub stopped : (r : Result (Unit {0}) RunFault) (it : RunFault) (before after : Option (List ℕ)) (f g : ℕ) (text : List ℕ) → IsErr r × IsErrAnd r (λ (e : RunFault). e ≡ it)
+    → Wrote {A = Unit {0}} (Err it) before after f g text → Wrote r before after f g text
+stopped (Ok done) it before after f g text is wrote = absurd (cc)
+stopped (Err e) it before after f g text is wrote = subst (λ (e : RunFault). Wrote {A = Unit {0}} (Err e) before after f g text) (sym is.1) wrote
 
 -- ---- while they are written
 

@@ -4,13 +4,11 @@ use Rattle.std.specs.Prelude.{Some, None, Result, Ok, Err, OnOk, OnErr, flat_map
 use Rattle.std.specs.Io.KnownBytes.{Appends}
 use Rattle.std.specs.List.{All, list_any}
 use Rattle.std.proofs.lemmas.Bool.{false≢true}
-use Rattle.std.proofs.lemmas.List.{append-nil, drop_all}
+use Rattle.std.proofs.lemmas.List.{append-nil, drop_all, map-append}
 use Rattle.std.proofs.lemmas.List.Elements.{All-append, All-cons, All-nil}
-use Rattle.text_io.specs.declared.kinds.Version.{Version}
 use Rattle.script_model.specs.Reading.{Reading, Refusal, reading, refusal_line}
-use Rattle.script_model.specs.Syntax.{Item, Script}
-use Rattle.page_model.specs.World.{World}
-use Rattle.page_model.specs.Outcome.{opening_world, Ending}
+use Rattle.script_model.specs.Syntax.{Script}
+use Rattle.page_model.specs.Outcome.{Ending, refused_ending}
 use Rattle.trace_runs.specs.declared.faults.RunFault.{RunFault}
 use Rattle.trace_runs.specs.declared.faults.RunFault.TheVariants as fault
 use Rattle.trace_runs.specs.Writes.{AppendsPart, FailsWithin, Wrote}
@@ -21,21 +19,18 @@ use Rattle.page_stream.specs.Pages.{pages_of}
 use Rattle.page_stream.specs.Parts.{parts_of, script_of}
 use Rattle.run_replies.specs.Answers.{Tells}
 use Rattle.stream_runs.specs.Alone.{IsOneLine, lines_from, opening_lines, stream_lines}
-use Rattle.stream_runs.specs.PageRuns.{PageScript, PageRun, ending_at, opened, refused_lines, turn_at}
+use Rattle.stream_runs.specs.PageRuns.{PageScript, PageRun, Over, ending_at, opened, refused_lines, turn_at}
 use Rattle.run_replies.specs.Replies.{Reply}
 use Rattle.stream_replay.specs.StreamReplies.{run_reply}
 use Rattle.stream_runs.specs.StreamRuns.{StreamRun, named_text, refused_text, scripts_from, scripts_of, stream_opened, stream_step, turned, with_turn, parts_run, stream_run}
 use Rattle.stream_runs.proofs.Said.{fit_none, fit_more}
 use Rattle.stream_replay.specs.StreamStatuses.{is_faulty, met_limit, stream_status}
-use Rattle.stream_replay.specs.StreamPages.{progress_ending, seen_page, seen_standing, IsReadyBy, IsReadyPage}
-use Rattle.stream_replay.specs.declared.stream_page.Progress.{Progress}
-use Rattle.stream_replay.specs.declared.stream_page.Progress.TheVariants as progresses
+use Rattle.stream_replay.specs.StreamPages.{seen_page, seen_standing, IsReadyPage}
 use Rattle.run_replies.specs.Statuses.{is_whole, status_after, status_of}
 use Rattle.stream_replay.specs.declared.stream_page.StreamPage.{StreamPage}
 use Rattle.run_replies.specs.declared.status.Status.{Status}
 use Rattle.run_replies.specs.declared.status.Status.TheVariants.{Done, Syntax, Limit}
 use Rattle.stream_replay.proofs.NamedLines.{cut_behind, named_nothing}
-use Rattle.script_items.proofs.Playing.{opening_ready}
 use Rattle.run_replies.proofs.Summaries.{IsWhole, wrote_tells}
 
 -- the elements from a place on
@@ -353,29 +348,26 @@ cut_tells A fault.WriteFault source before after f g cut =
 
 -- ---- how the pages end
 
-ending-seen : (progress : Progress) (script : List Item) (k : ℕ) (world : World) → ending_at (seen_standing progress script k world) ≡ progress_ending progress
-ending-seen progresses.Going script k world = refl
-ending-seen progresses.Faulty script k world = refl
-ending-seen progresses.LimitMet script k world = refl
-
-any-seen : (test : Ending → Bool) (pages : List StreamPage) → list_any (λ page. test (ending_at page.standing)) (map seen_page pages) ≡ list_any (λ page. test (progress_ending page.progress)) pages
+any-seen : (test : Ending → Bool) (pages : List StreamPage) → list_any (λ page. test (ending_at page.standing)) (map seen_page pages) ≡ list_any (λ page. test (ending_at (seen_standing page.standing))) pages
 any-seen test [] = refl
-any-seen test (p ∷ ps) =
-    ap (λ ending. test ending || list_any (λ page. test (ending_at page.standing)) (map seen_page ps)) (ending-seen p.progress p.script.items p.next p.page.world)
-    ∙ ap (λ others. test (progress_ending p.progress) || others) (any-seen test ps)
+any-seen test (p ∷ ps) = ap (λ others. test (ending_at (seen_standing p.standing)) || others) (any-seen test ps)
 
 pub status_seen : (pages : List StreamPage) → stream_status (map seen_page pages)
-    ≡ cond (list_any (λ page. is_faulty (progress_ending page.progress)) pages) Syntax (cond (list_any (λ page. met_limit (progress_ending page.progress)) pages) Limit Done)
+    ≡ cond (list_any (λ page. is_faulty (ending_at (seen_standing page.standing))) pages) Syntax (cond (list_any (λ page. met_limit (ending_at (seen_standing page.standing))) pages) Limit Done)
 status_seen pages =
     ap (λ test. cond test Syntax (cond (list_any (λ page. met_limit (ending_at page.standing)) (map seen_page pages)) Limit Done)) (any-seen is_faulty pages)
-    ∙ ap (λ test. cond (list_any (λ page. is_faulty (progress_ending page.progress)) pages) Syntax (cond test Limit Done)) (any-seen met_limit pages)
+    ∙ ap (λ test. cond (list_any (λ page. is_faulty (ending_at (seen_standing page.standing))) pages) Syntax (cond test Limit Done)) (any-seen met_limit pages)
 
 -- ---- a page more
 
-pub ready_opening : (progress : Progress) (script : List Item) (version : Version) (world : World) → world ≡ opening_world version → IsReadyBy progress script world
-ready_opening progresses.Going script version world opening = opening_ready script version world opening
-ready_opening progresses.Faulty script version world opening = tt
-ready_opening progresses.LimitMet script version world opening = tt
+pub seen_more : (r : Result (Unit {0}) RunFault) (pages longer : List StreamPage) (page : StreamPage) (run : PageRun) → OnOk r (longer ≡ pages ++ (page ∷ [])) → seen_page page ≡ run
+    → OnOk r (map seen_page longer ≡ map seen_page pages ++ (run ∷ []))
+seen_more (Ok done) pages longer page run is seen =
+    ap (λ (ps : List StreamPage). map seen_page ps) is ∙ map-append seen_page pages (page ∷ []) ∙ ap (λ (r : PageRun). map seen_page pages ++ (r ∷ [])) seen
+seen_more (Err it) pages longer page run is seen = tt
+
+pub refused_is : (name : List ℕ) (read : Reading) (refusal : Refusal) → read ≡ Err refusal → record { name = name; standing = Over (refused_ending refusal) } ≡ opened (record { name = name; read = read })
+refused_is name read refusal is = ap (λ (it : Reading). opened (record { name = name; read = it })) (sym is)
 
 pub ready_more : (r : Result (Unit {0}) RunFault) (pages longer : List StreamPage) (page : StreamPage) → OnOk r (longer ≡ pages ++ (page ∷ [])) → IsReadyPage page → OnOk r (All IsReadyPage pages → All IsReadyPage longer)
 ready_more (Ok done) pages longer page is ready = λ all.

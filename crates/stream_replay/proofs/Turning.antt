@@ -1,7 +1,8 @@
 -- The turn of a page at one of its lines.
 use Rattle.std.proofs.Common.{◌≡◌, ◌∙◌, refl, sym, ap, subst, ℕ, zero, suc, ◌+◌, ◌<◌, true, false, cond, List, [], ◌∷◌, length, map, drop, get_or, Option, arith}
-use Rattle.std.specs.Prelude.{◌==◌, Some, None, slice_get}
+use Rattle.std.specs.Prelude.{Some, None, slice_get}
 use Rattle.std.proofs.lemmas.Bool.{false≢true}
+use Rattle.std.proofs.lemmas.List.Elements.{All-nil}
 use Rattle.text_io.specs.declared.kinds.LimitKind.{LimitKind}
 use Rattle.script_model.specs.Syntax.{Item}
 use Rattle.script_model.specs.Scripts.{handlers_in}
@@ -10,16 +11,18 @@ use Rattle.script_syntax.specs.Seen.{item_of}
 use Rattle.script_syntax.specs.declared.commands.Item as written
 use Rattle.page_model.specs.World.{World}
 use Rattle.page_model.specs.Outcome as outcomes
-use Rattle.page_model.specs.Outcome.{run_item}
+use Rattle.page_model.specs.Outcome.{bytes_of, run_item}
 use Rattle.page_model.specs.Runs as runs
 use Rattle.page_model.specs.Runs.{Said}
+use Rattle.trace_text.specs.Ranges.{IsLine}
 use Rattle.trace_runs.specs.Runs as Run
 use Rattle.trace_runs.specs.Writes.{Says}
 use Rattle.trace_summary.specs.Counts.{IsTrace}
-use Rattle.stream_runs.specs.PageRuns.{Going as GoesOn, Over, Turn, passed, stands_by, went_on, item_line, turn_at}
-use Rattle.stream_replay.specs.StreamPages.{seen_standing, item_begins, begins}
-use Rattle.stream_replay.specs.declared.stream_page.Progress.{Progress}
-use Rattle.stream_replay.specs.declared.stream_page.Progress.TheVariants.{Going, Faulty, LimitMet}
+use Rattle.stream_runs.specs.PageRuns.{Standing as PageStanding, Going, Over, Turn, passed, stands_by, went_on, turn_at}
+use Rattle.stream_replay.specs.StreamPages.{seen_standing, item_begins}
+use Rattle.stream_replay.specs.declared.stream_page.Running.{Running}
+use Rattle.stream_replay.specs.declared.stream_page.Standing.{Standing}
+use Rattle.stream_replay.specs.declared.stream_page.Standing.TheVariants as standing
 use Rattle.run_replies.proofs.Summaries.{gathered_trace, gathered_more}
 
 never : {A : Type 0} → false ≡ true → A
@@ -47,81 +50,77 @@ item_there items script k item d is inside at = ap (λ it. slice_get it k) (sym 
 
 -- ---- the next item is run
 
-goes : (line : ℕ) (progress : Progress) (script : List Item) (k : ℕ) → begins line progress script k ≡ true → progress ≡ Going
-goes line Going script k is = refl
-goes line Faulty script k is = never is
-goes line LimitMet script k is = never is
-
-begins-at : (line : ℕ) (progress : Progress) (script : List Item) (k : ℕ) (item : Item) → begins line progress script k ≡ true → slice_get script k ≡ Some item → (item_line item == line) ≡ true
-begins-at line Going script k item is at = ap (λ it. item_begins line it) (sym at) ∙ is
-begins-at line Faulty script k item is at = never is
-begins-at line LimitMet script k item is at = never is
-
-pub turn_taken : (line : ℕ) (progress : Progress) (script : List Item) (k : ℕ) (world : World) (item : Item) → begins line progress script k ≡ true → slice_get script k ≡ Some item
-    → turn_at line (seen_standing progress script k world) ≡ went_on (handlers_in script) (drop (k + 1) script) (run_item (handlers_in script) item world)
-unfolding turn_at
-turn_taken line progress script k world item is at =
-    ap (λ p. turn_at line (seen_standing p script k world)) (goes line progress script k is)
-    ∙ ap (λ left. turn_at line (GoesOn (handlers_in script) left world)) (drop_at script k item at)
-    ∙ ap (λ test. cond test (went_on (handlers_in script) (drop (k + 1) script) (run_item (handlers_in script) item world)) (passed (GoesOn (handlers_in script) (item ∷ drop (k + 1) script) world)))
-    (begins-at line progress script k item is at)
-
--- or it isn't
-pub turn_passed : (line : ℕ) (progress : Progress) (script : List Item) (k : ℕ) (world : World) → begins line progress script k ≡ false
-    → turn_at line (seen_standing progress script k world) ≡ passed (seen_standing progress script k world)
-unfolding turn_at
-turn_passed line Faulty script k world is = refl
-turn_passed line LimitMet script k world is = refl
-turn_passed line Going script k world is = by_item (slice_get script k) refl is
-  where
-    by_item : (at : Option Item) → slice_get script k ≡ at → item_begins line (slice_get script k) ≡ false
-        → turn_at line (GoesOn (handlers_in script) (drop k script) world) ≡ passed (GoesOn (handlers_in script) (drop k script) world)
-    by_item None at is =
-        ap (λ left. turn_at line (GoesOn (handlers_in script) left world)) (drop_none script k at)
-        ∙ ap (λ left. passed (GoesOn (handlers_in script) left world)) (sym (drop_none script k at))
-    by_item (Some item) at is =
-        ap (λ left. turn_at line (GoesOn (handlers_in script) left world)) (drop_at script k item at)
-        ∙ ap (λ test. cond test (went_on (handlers_in script) (drop (k + 1) script) (run_item (handlers_in script) item world)) (passed (GoesOn (handlers_in script) (item ∷ drop (k + 1) script) world)))
-        (ap (λ it. item_begins line it) (sym at) ∙ is)
-        ∙ ap (λ left. passed (GoesOn (handlers_in script) left world)) (sym (drop_at script k item at))
-
--- ---- what it says
-
-module _ (line : ℕ) (progress : Progress) (script : List Item) (k : ℕ) (world : World) (item : Item) (is : begins line progress script k ≡ true) (at : slice_get script k ≡ Some item) where
-  abbrev said : Said World
-  said = run_item (handlers_in script) item world
-
+module _ (line : ℕ) (script : List Item) (k : ℕ) (world : World) where
   abbrev turn : Turn
-  turn = turn_at line (seen_standing progress script k world)
+  turn = turn_at line (Going (handlers_in script) (drop k script) world)
 
-  pub ended_lines : {new : World} (gathered taken : List ℕ) (f g : ℕ) → gathered ≡ [] → Run.Ended runs.Next new (Some gathered) (Some taken) f g said → IsTrace taken turn.lines
-  ended_lines gathered taken f g none ended =
-      subst (λ (t : Turn). IsTrace taken t.lines) (sym (turn_taken line progress script k world item is at)) (gathered_trace gathered taken (said.lines) none ended.written)
+  -- at its line
+  begun : (item : Item) → item_begins line (slice_get script k) ≡ true → slice_get script k ≡ Some item
+      → turn ≡ went_on (handlers_in script) (drop (k + 1) script) (run_item (handlers_in script) item world)
+  unfolding turn_at
+  begun item is at =
+      ap (λ left. turn_at line (Going (handlers_in script) left world)) (drop_at script k item at)
+      ∙ ap (λ test. cond test (went_on (handlers_in script) (drop (k + 1) script) (run_item (handlers_in script) item world)) (passed (Going (handlers_in script) (item ∷ drop (k + 1) script) world)))
+      (ap (λ it. item_begins line it) (sym at) ∙ is)
 
-  pub ended_standing : {new : World} {b a : Option (List ℕ)} {f g : ℕ} → Run.Ended runs.Next new b a f g said → seen_standing progress script (k + 1) new ≡ turn.standing
-  ended_standing {new} ended =
-      ap (λ p. seen_standing p script (k + 1) new) (goes line progress script k is)
-      ∙ ap (λ w. GoesOn (handlers_in script) (drop (k + 1) script) w) (sym ended.state_is)
-      ∙ ap (λ flow. stands_by flow (handlers_in script) (drop (k + 1) script) (said.state)) (sym ended.flow_is)
-      ∙ ap (λ (t : Turn). t.standing) (sym (turn_taken line progress script k world item is at))
+  -- and at no other
+  pub turn_passed : item_begins line (slice_get script k) ≡ false → turn ≡ passed (Going (handlers_in script) (drop k script) world)
+  unfolding turn_at
+  turn_passed is = by_item (slice_get script k) refl
+    where
+      by_item : (at : Option Item) → slice_get script k ≡ at → turn ≡ passed (Going (handlers_in script) (drop k script) world)
+      by_item None at =
+          ap (λ left. turn_at line (Going (handlers_in script) left world)) (drop_none script k at)
+          ∙ ap (λ left. passed (Going (handlers_in script) left world)) (sym (drop_none script k at))
+      by_item (Some item) at =
+          ap (λ left. turn_at line (Going (handlers_in script) left world)) (drop_at script k item at)
+          ∙ ap (λ test. cond test (went_on (handlers_in script) (drop (k + 1) script) (run_item (handlers_in script) item world)) (passed (Going (handlers_in script) (item ∷ drop (k + 1) script) world)))
+          (ap (λ it. item_begins line it) (sym at) ∙ is)
+          ∙ ap (λ left. passed (Going (handlers_in script) left world)) (sym (drop_at script k item at))
 
-  pub limit_lines : (kind : LimitKind) (number most : ℕ) (gathered taken all : List ℕ) (f g : ℕ) → gathered ≡ [] → Run.MeetsLimit kind number most (Some gathered) (Some taken) f g said
-      → Says (Some taken) (Some all) (LimitLine kind number most ∷ []) → IsTrace all turn.lines
-  limit_lines kind number most gathered taken all f g none met last =
-      subst (λ (t : Turn). IsTrace all t.lines) (sym (turn_taken line progress script k world item is at))
-      (subst (λ (lines : List TraceLine). IsTrace all lines) (sym met.last)
-      (gathered_more taken all met.lines (LimitLine kind number most ∷ []) (gathered_trace gathered taken met.lines none met.written) last))
+  -- what it says
+  module _ (item : Item) (is : item_begins line (slice_get script k) ≡ true) (at : slice_get script k ≡ Some item) where
+    abbrev said : Said World
+    said = run_item (handlers_in script) item world
 
-  pub limit_standing : {kind : LimitKind} {number most : ℕ} {b a : Option (List ℕ)} {f g : ℕ} → Run.MeetsLimit kind number most b a f g said → Over outcomes.LimitMet ≡ turn.standing
-  limit_standing met =
-      ap (λ flow. stands_by flow (handlers_in script) (drop (k + 1) script) (said.state)) (sym met.flow_is)
-      ∙ ap (λ (t : Turn). t.standing) (sym (turn_taken line progress script k world item is at))
+    pub ended_lines : {new : World} (gathered taken : List ℕ) (f g : ℕ) → gathered ≡ [] → Run.Ended runs.Next new (Some gathered) (Some taken) f g said → IsTrace taken turn.lines
+    ended_lines gathered taken f g none ended =
+        subst (λ (t : Turn). IsTrace taken t.lines) (sym (begun item is at)) (gathered_trace gathered taken (said.lines) none ended.written)
+
+    pub ended_standing : {new : World} {b a : Option (List ℕ)} {f g : ℕ} → Run.Ended runs.Next new b a f g said → Going (handlers_in script) (drop (k + 1) script) new ≡ turn.standing
+    ended_standing {new} ended =
+        ap (λ w. Going (handlers_in script) (drop (k + 1) script) w) (sym ended.state_is)
+        ∙ ap (λ flow. stands_by flow (handlers_in script) (drop (k + 1) script) (said.state)) (sym ended.flow_is)
+        ∙ ap (λ (t : Turn). t.standing) (sym (begun item is at))
+
+    pub limit_lines : (kind : LimitKind) (number most : ℕ) (gathered taken all : List ℕ) (f g : ℕ) → gathered ≡ [] → Run.MeetsLimit kind number most (Some gathered) (Some taken) f g said
+        → Says (Some taken) (Some all) (LimitLine kind number most ∷ []) → IsTrace all turn.lines
+    limit_lines kind number most gathered taken all f g none met last =
+        subst (λ (t : Turn). IsTrace all t.lines) (sym (begun item is at))
+        (subst (λ (lines : List TraceLine). IsTrace all lines) (sym met.last)
+        (gathered_more taken all met.lines (LimitLine kind number most ∷ []) (gathered_trace gathered taken met.lines none met.written) last))
+
+    pub limit_standing : {kind : LimitKind} {number most : ℕ} {b a : Option (List ℕ)} {f g : ℕ} → Run.MeetsLimit kind number most b a f g said → Over outcomes.LimitMet ≡ turn.standing
+    limit_standing met =
+        ap (λ flow. stands_by flow (handlers_in script) (drop (k + 1) script) (said.state)) (sym met.flow_is)
+        ∙ ap (λ (t : Turn). t.standing) (sym (begun item is at))
+
+-- a page that doesn't run
+pub turn_over : (line : ℕ) (it : Standing) → ((running : Running) → it ≡ standing.Running running → ⊥) → turn_at line (seen_standing it) ≡ passed (seen_standing it)
+unfolding turn_at
+turn_over line (standing.Running running) none = absurd (none running refl)
+turn_over line standing.Faulty none = refl
+turn_over line standing.LimitMet none = refl
+
+-- nothing is said then
+pub nothing_said : (taken : List ℕ) (turn : Turn) (standing : PageStanding) → taken ≡ [] → turn ≡ passed standing → IsTrace taken turn.lines
+unfolding bytes_of
+nothing_said taken it standing none is =
+    subst (λ (t : Turn). IsTrace taken t.lines) (sym is) (record { fit = All-nil IsLine; makes = sym none })
 
 -- where an item begins there is one
-pub begins_inside : (line : ℕ) (progress : Progress) (items : List written.Item) (script : List Item) (k : ℕ) → map item_of items ≡ script → begins line progress script k ≡ true → k < length items
-begins_inside line Faulty items script k same is = never is
-begins_inside line LimitMet items script k same is = never is
-begins_inside line Going items script k same is = inside items k (ap (λ (it : List Item). item_begins line (slice_get it k)) same ∙ is)
+pub begins_inside : (line : ℕ) (items : List written.Item) (script : List Item) (k : ℕ) → map item_of items ≡ script → item_begins line (slice_get script k) ≡ true → k < length items
+begins_inside line items script k same is = inside items k (ap (λ (it : List Item). item_begins line (slice_get it k)) same ∙ is)
   where
     inside : (items : List written.Item) (k : ℕ) → item_begins line (slice_get (map item_of items) k) ≡ true → k < length items
     inside [] k is = never is

@@ -1,45 +1,47 @@
 -- What the pages of a stream stand for as they run.
-use Rattle.std.specs.Prelude.{ℕ, ◌==◌, Bool, false, List, drop, slice_get, Option, Some, None}
+use Rattle.std.specs.Prelude.{ℕ, ◌==◌, Bool, true, false, drop, slice_get, Option, Some, None}
 use Rattle.script_model.specs.Syntax.{Item}
 use Rattle.script_model.specs.Scripts.{handlers_in}
-use Rattle.page_model.specs.World.{World}
 use Rattle.page_model.specs.Outcome as outcomes
 use Rattle.frame_update.specs.Ready.{IsReady}
-use Rattle.stream_runs.specs.PageRuns.{PageRun, Standing, Going as GoesOn, Over, item_line}
-use Rattle.stream_replay.specs.declared.stream_page.Progress.{Progress}
-use Rattle.stream_replay.specs.declared.stream_page.Progress.TheVariants.{Going, Faulty, LimitMet}
+use Rattle.stream_runs.specs.PageRuns as runs
+use Rattle.stream_runs.specs.PageRuns.{PageRun, item_line}
+use Rattle.stream_replay.specs.declared.stream_page.Running.{Running}
+use Rattle.stream_replay.specs.declared.stream_page.Standing.{Standing}
+use Rattle.stream_replay.specs.declared.stream_page.Standing.TheVariants as standing
 use Rattle.stream_replay.specs.declared.stream_page.StreamPage.{StreamPage}
 
-abbrev pub seen_standing : Progress → List Item → ℕ → World → Standing
-seen_standing Going script next world = GoesOn (handlers_in script) (drop next script) world
-seen_standing Faulty script next world = Over outcomes.Faulty
-seen_standing LimitMet script next world = Over outcomes.LimitMet
+-- the items that are left of a script, and the world of its page
+abbrev pub seen_running : Running → runs.Standing
+seen_running it = runs.Going (handlers_in it.script.items) (drop it.next it.script.items) it.page.world
+
+abbrev pub seen_standing : Standing → runs.Standing
+seen_standing (standing.Running it) = seen_running it
+seen_standing standing.Faulty = runs.Over outcomes.Faulty
+seen_standing standing.LimitMet = runs.Over outcomes.LimitMet
 
 abbrev pub seen_page : StreamPage → PageRun
-seen_page it = record { name = it.name; standing = seen_standing it.progress it.script.items it.next it.page.world }
+seen_page it = record { name = it.name; standing = seen_standing it.standing }
 
--- how a page ends that isn't run on
-abbrev pub progress_ending : Progress → outcomes.Ending
-progress_ending Going = outcomes.Ended
-progress_ending Faulty = outcomes.Faulty
-progress_ending LimitMet = outcomes.LimitMet
+-- how a page stands behind an item: it goes on, or met a limit
+abbrev pub left_by : Bool → Running → runs.Standing
+left_by true it = seen_running it
+left_by false it = runs.Over outcomes.LimitMet
 
 -- whether this item is there and begins on a line
 abbrev pub item_begins : ℕ → Option Item → Bool
 item_begins line None = false
 item_begins line (Some item) = item_line item == line
 
--- whether the next item of a page is run at a line
-abbrev pub begins : ℕ → Progress → List Item → ℕ → Bool
-begins line Going script next = item_begins line (slice_get script next)
-begins line Faulty script next = false
-begins line LimitMet script next = false
+-- whether the next item of a script begins on a line
+abbrev pub begins : ℕ → Running → Bool
+begins line it = item_begins line (slice_get it.script.items it.next)
 
--- a page that goes on is ready for its next item
-abbrev pub IsReadyBy : Progress → List Item → World → Type 0
-IsReadyBy Going script world = IsReady script world
-IsReadyBy Faulty script world = Unit {0}
-IsReadyBy LimitMet script world = Unit {0}
+-- a page that runs is ready for its next item
+abbrev pub IsReadyStanding : Standing → Type 0
+IsReadyStanding (standing.Running it) = IsReady it.script.items it.page.world
+IsReadyStanding standing.Faulty = Unit {0}
+IsReadyStanding standing.LimitMet = Unit {0}
 
 abbrev pub IsReadyPage : StreamPage → Type 0
-IsReadyPage it = IsReadyBy it.progress it.script.items it.page.world
+IsReadyPage it = IsReadyStanding it.standing

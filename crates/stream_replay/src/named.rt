@@ -54,9 +54,7 @@ pub fn write_named<K: Sink>(
     let mut rest = trace;
     while !rest.is_empty() {
         let (line, behind) = split_line(rest);
-        if let Err(fault) = write_line(alloc, name, line, sink) {
-            return Err(fault);
-        }
+        write_line(alloc, name, line, sink)?;
         rest = behind;
     }
     Ok(())

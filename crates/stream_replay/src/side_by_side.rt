@@ -4,32 +4,28 @@ ghost use Rattle.std.specs.Io.KnownBytes.{Appends};
 ghost use Rattle.std.specs.Prelude.{ℕ, List, Option, ◌≡◌, ◌≤◌, ◌++◌, ◌∷◌, [], length, map, ◌<◌, true, Ok, Err, IfOk, IfSome, OnOk, OnErr};
 ghost use Rattle.std.specs.List.{All, list_any};
 ghost use Rattle.text_io.specs.Streams.{Rose};
-ghost use Rattle.text_io.specs.declared.kinds.Version.TheVariants.{First};
 ghost use Rattle.script_model.specs.Reading.{reading};
-ghost use Rattle.page_model.specs.Outcome.{opening_world};
 ghost use Rattle.trace_runs.specs.Writes.{Wrote};
 ghost use Rattle.trace_text.specs.Ranges.{HasReach};
 ghost use Rattle.trace_text.specs.Seen.{seen_line};
 ghost use Rattle.page_stream.specs.Pages.{pages_of};
 ghost use Rattle.page_stream.specs.Parts.{script_of};
 ghost use Rattle.run_replies.specs.Answers.{Ends, IsTaken, Tells};
-ghost use Rattle.stream_replay.specs.StreamReplies.{IsolatesPages};
 ghost use Rattle.run_replies.specs.Statuses.{is_whole};
 ghost use Rattle.stream_runs.specs.Alone.{IsOneLine, TellsAlone, lines_from, opening_lines, stream_lines};
-ghost use Rattle.stream_runs.specs.PageRuns.{opened, refused_lines};
-ghost use Rattle.stream_replay.specs.StreamReplies.{pages_reply, run_reply};
+ghost use Rattle.stream_runs.specs.PageRuns.{ending_at, opened, refused_lines};
+ghost use Rattle.stream_replay.specs.StreamReplies.{pages_reply, run_reply, IsolatesPages};
 ghost use Rattle.stream_runs.specs.StreamRuns.{named_text, parts_run, refused_text, scripts_of, stream_opened, stream_run};
 ghost use Rattle.stream_replay.specs.StreamStatuses.{is_faulty, met_limit, stream_status};
-ghost use Rattle.stream_replay.specs.StreamPages.{progress_ending, seen_page, seen_standing, IsReadyPage};
+ghost use Rattle.stream_replay.specs.StreamPages.{seen_page, seen_standing, IsReadyPage};
 
 use crate::named::write_named;
-use crate::stream_page::{Progress, StreamPage, take_turn};
+use crate::stream_page::{Running, Standing, StreamPage, take_turn};
 use page_state::Page;
 use page_stream::{Part, Stream, StreamFault, split};
 use run_replies::{Status, meet_limit, refuse_at, status_of};
 use script_source::ScriptText;
 use script_syntax::{ParseFault, Script};
-use script_text::laws::printed_script_reads_back;
 use std::alloc::Global;
 use std::sync::ledger::Ledger;
 use step_count::Steps;
@@ -47,8 +43,8 @@ const MOST_STREAM: usize = 16_777_216;
 /// The most pages of a stream.
 const MOST_PAGES: usize = 8;
 
-// A page before its first command, behind those that are there. It is the one place where a page of a stream is dropped, which is long
-// to prove: where no memory is left for the list.
+// A page before its first command, behind those that are there. Where no memory is left for the list it is dropped, which is long to
+// prove: here alone.
 fn push_page(pages: &mut Vec<StreamPage>, page: StreamPage) -> Result<(), RunFault>
     ensures ok { OnOk result (pages.new.items ≡ pages.old.items ++ (page ∷ [])) }
     ensures err { OnErr result (result ≡ Err RunFault.Memory) }
@@ -59,70 +55,53 @@ fn push_page(pages: &mut Vec<StreamPage>, page: StreamPage) -> Result<(), RunFau
     }
 }
 
+// A page whose script is read.
 fn add_page(
     alloc: Global,
     name: Name,
     script: Script,
-    progress: Progress,
     pages: &mut Vec<StreamPage>,
 ) -> Result<(), RunFault>
-    ensures ok { OnOk result (map seen_page pages.new.items ≡ map seen_page pages.old.items ++ (record { name = name; standing = seen_standing progress script.items 0 (opening_world script.version) } ∷ [])) }
+    ensures ok { OnOk result (map seen_page pages.new.items ≡ map seen_page pages.old.items ++ (opened (record { name = name; read = Ok script }) ∷ [])) }
     ensures ready { OnOk result (All IsReadyPage pages.old.items → All IsReadyPage pages.new.items) }
     ensures err { OnErr result (result ≡ Err RunFault.Memory) }
 {
     let Ok(page) = Page::new(alloc, script.version()) else {
         return Err(RunFault::Memory);
     };
+    let running = Running {
+        script,
+        page,
+        next: 0,
+    };
     push_page(
         pages,
         StreamPage {
             name,
-            script,
-            page,
-            next: 0,
-            progress,
+            standing: Standing::Running(running),
         },
     )
 }
 
-// A script without items, for a page whose own is refused. It is of the first version, which nobody looks at.
-fn no_script(alloc: Global) -> Result<Script, RunFault>
-    ensures none { IfOk result (λ script. script ≡ record { version = First; items = [] }) }
-    ensures memory { OnErr result (result ≡ Err RunFault.Memory) }
-{
-    // the law by which a text reads as such a script
-    printed_script_reads_back();
-    match Script::build(alloc, Vec::new(alloc)) {
-        Ok(script) => Ok(script),
-        Err(_) => Err(RunFault::Memory),
-    }
-}
-
-// A page whose script is refused: the line that says so is written.
+// A page whose script is refused, and the line that says so.
 fn refuse_page<K: Sink>(
     alloc: Global,
     name: Name,
     line: &TraceLine,
-    progress: Progress,
+    standing: Standing,
     pages: &mut Vec<StreamPage>,
     sink: &mut K,
 ) -> Result<(), RunFault>
     requires { HasReach (seen_line line.now) }
     ensures wrote { Wrote result (K.taken sink.old) (K.taken sink.new) (K.faults sink.old) (K.faults sink.new) (named_text name (seen_line line.now ∷ [])) }
-    ensures pages { OnOk result (map seen_page pages.new.items ≡ map seen_page pages.old.items ++ (record { name = name; standing = seen_standing progress [] 0 (opening_world First) } ∷ [])) }
-    ensures ready { OnOk result (All IsReadyPage pages.old.items → All IsReadyPage pages.new.items) }
+    ensures pages { OnOk result (pages.new.items ≡ pages.old.items ++ (record { name = name; standing = standing } ∷ [])) }
 {
+    push_page(pages, StreamPage { name, standing })?;
     let mut gathered = GatherSink::new(alloc);
     let Ok(()) = write_one(alloc, line, &mut gathered) else {
         return Err(RunFault::Memory);
     };
-    if let Err(fault) = write_named(alloc, &name, gathered.taken(), sink) {
-        return Err(fault);
-    }
-    match no_script(alloc) {
-        Ok(script) => add_page(alloc, name, script, progress, pages),
-        Err(fault) => Err(fault),
-    }
+    write_named(alloc, &name, gathered.taken(), sink)
 }
 
 // The laws by which a line ends in its only line feed.
@@ -148,16 +127,16 @@ fn open_page<K: Sink>(
     ensures ready { OnOk result (All IsReadyPage pages.old.items → All IsReadyPage pages.new.items) }
 {
     match text.parse(alloc) {
-        Ok(script) => add_page(alloc, name, script, Progress::Going, pages),
+        Ok(script) => add_page(alloc, name, script, pages),
         Err(ParseFault::Syntax { line, column }) => {
             let line = TraceLine::Syntax(line, column);
             ends_once(&line);
-            refuse_page(alloc, name, &line, Progress::Faulty, pages, sink)
+            refuse_page(alloc, name, &line, Standing::Faulty, pages, sink)
         }
         Err(ParseFault::ScriptLimit { kind, line }) => {
             let line = TraceLine::Limit(kind, line, kind.common());
             ends_once(&line);
-            refuse_page(alloc, name, &line, Progress::LimitMet, pages, sink)
+            refuse_page(alloc, name, &line, Standing::LimitMet, pages, sink)
         }
         Err(ParseFault::Memory) => Err(RunFault::Memory),
     }
@@ -194,13 +173,8 @@ fn open_pages<K: Sink>(
 {
     let names = stream.pages();
     for place in 0..names.len() {
-        let text = match text_of(alloc, stream, place) {
-            Ok(text) => text,
-            Err(fault) => return Err(fault),
-        };
-        if let Err(fault) = open_page(alloc, names[place], text, pages, sink) {
-            return Err(fault);
-        }
+        let text = text_of(alloc, stream, place)?;
+        open_page(alloc, names[place], text, pages, sink)?;
     }
     Ok(())
 }
@@ -221,24 +195,22 @@ fn run_parts<K: Sink, L: Ledger>(
     for part in parts {
         if part.page < pages.len() {
             let page = &mut pages[part.page];
-            if let Err(fault) = take_turn(alloc, page, part.line, sink, steps) {
-                return Err(fault);
-            }
+            take_turn(alloc, page, part.line, sink, steps)?;
         }
     }
     Ok(())
 }
 
 fn any_faulty(pages: &[StreamPage]) -> bool
-    ensures { result ≡ list_any (λ page. is_faulty (progress_ending page.progress)) pages.now }
+    ensures { result ≡ list_any (λ page. is_faulty (ending_at (seen_standing page.standing))) pages.now }
 {
-    pages.iter().any(|page| page.progress.is_faulty())
+    pages.iter().any(|page| page.standing.is_faulty())
 }
 
 fn any_limited(pages: &[StreamPage]) -> bool
-    ensures { result ≡ list_any (λ page. met_limit (progress_ending page.progress)) pages.now }
+    ensures { result ≡ list_any (λ page. met_limit (ending_at (seen_standing page.standing))) pages.now }
 {
-    pages.iter().any(|page| page.progress.met_limit())
+    pages.iter().any(|page| page.standing.met_limit())
 }
 
 // A fault of some page's script comes before a limit that some page met.

@@ -1,15 +1,17 @@
 //! A page of a stream, as it runs.
 
-ghost use Rattle.std.specs.Prelude.{◌≡◌, true, IfOk, OnOk, OnErr, Err};
+ghost use Rattle.std.specs.Prelude.{◌≡◌, true, [], IfOk, OnOk, OnErr, Err};
 ghost use Rattle.std.specs.List.{All};
 ghost use Rattle.script_syntax.specs.Seen.{item_of};
+ghost use Rattle.frame_update.specs.Ready.{IsReady};
 ghost use Rattle.trace_runs.specs.Writes.{Wrote};
 ghost use Rattle.trace_summary.specs.Counts.{IsTrace};
 ghost use Rattle.stream_runs.specs.Alone.{IsOneLine};
-ghost use Rattle.stream_runs.specs.PageRuns.{item_line, turn_at};
+ghost use Rattle.stream_runs.specs.PageRuns.{ending_at, item_line, turn_at};
 ghost use Rattle.stream_runs.specs.StreamRuns.{named_text};
 ghost use Rattle.stream_replay.specs.StreamStatuses.{is_faulty, met_limit};
-ghost use Rattle.stream_replay.specs.StreamPages.{begins, progress_ending, seen_page, IsReadyPage};
+ghost use Rattle.stream_replay.specs.StreamPages.{begins, left_by, seen_page, seen_running, seen_standing, IsReadyPage, IsReadyStanding};
+ghost use Rattle.stream_replay.specs.declared.stream_page.Standing.TheVariants.{LimitMet};
 
 use crate::named::write_named;
 use page_state::Page;
@@ -24,33 +26,42 @@ use trace_runs::RunFault;
 use trace_summary::GatherSink;
 use trace_text::line_ends_once;
 
-/// Whether a page of a stream goes on.
-#[derive(Clone, Copy, Debug, PartialEq, Eq)]
-pub enum Progress {
+/// A script that runs on a page of its own.
+#[derive(Drop)]
+pub struct Running {
+    pub script: Script,
+    pub page: Page,
+    /// How many of the items were run.
+    pub next: usize,
+}
+
+/// How a page of a stream stands.
+#[derive(Drop)]
+pub enum Standing {
     /// It goes on, or has come to its end.
-    Going,
+    Running(Running),
     /// Its script was refused with a fault.
     Faulty,
     /// Its script was refused with a limit, or it met one.
     LimitMet,
 }
 
-impl Progress {
+impl Standing {
     pub fn is_faulty(&self) -> bool
-        ensures { result ≡ is_faulty (progress_ending self.now) }
+        ensures { result ≡ is_faulty (ending_at (seen_standing self.now)) }
     {
         match self {
-            Progress::Faulty => true,
-            Progress::Going | Progress::LimitMet => false,
+            Standing::Faulty => true,
+            Standing::Running(_) | Standing::LimitMet => false,
         }
     }
 
     pub fn met_limit(&self) -> bool
-        ensures { result ≡ met_limit (progress_ending self.now) }
+        ensures { result ≡ met_limit (ending_at (seen_standing self.now)) }
     {
         match self {
-            Progress::LimitMet => true,
-            Progress::Going | Progress::Faulty => false,
+            Standing::LimitMet => true,
+            Standing::Running(_) | Standing::Faulty => false,
         }
     }
 }
@@ -59,12 +70,7 @@ impl Progress {
 #[derive(Drop)]
 pub struct StreamPage {
     pub name: Name,
-    /// Its script; one without items where that was refused.
-    pub script: Script,
-    pub page: Page,
-    /// How many of the items were run.
-    pub next: usize,
-    pub progress: Progress,
+    pub standing: Standing,
 }
 
 // The line on which an item begins.
@@ -78,57 +84,88 @@ fn first_line(item: &Item) -> u32
     }
 }
 
-// Whether the next item of a page is run at a line.
-fn next_begins(page: &StreamPage, line: u32) -> bool
-    ensures { result ≡ begins line page.now.progress page.now.script.items page.now.next }
+// Whether the next item begins on a line.
+fn next_begins(running: &Running, line: u32) -> bool
+    ensures { result ≡ begins line running.now }
 {
-    match page.progress {
-        Progress::Going => match page.script.items().get(page.next) {
-            Some(item) => first_line(item) == line,
-            None => false,
-        },
-        Progress::Faulty | Progress::LimitMet => false,
+    match running.script.items().get(running.next) {
+        Some(item) => first_line(item) == line,
+        None => false,
     }
 }
 
-// Runs the next item of a page, and gathers its lines, that of a limit included.
+// Runs the next item, and gathers its lines, that of a limit included. It answers whether the page goes on.
 fn run_next<L: Ledger>(
     alloc: Global,
-    page: &mut StreamPage,
+    running: &mut Running,
     line: u32,
+    gathered: &mut GatherSink,
     steps: &mut Steps<L>,
-) -> Result<GatherSink, RunFault>
-    requires ready { IsReadyPage page.old }
-    requires begins { begins line page.old.progress page.old.script.items page.old.next ≡ true }
-    ensures lines { IfOk result (λ gathered. IsTrace gathered.taken (turn_at line (seen_page page.old).standing).lines) }
-    ensures page { OnOk result (seen_page page.new ≡ record { name = page.old.name; standing = (turn_at line (seen_page page.old).standing).standing }) }
-    ensures ready { OnOk result (IsReadyPage page.new) }
+) -> Result<bool, RunFault>
+    requires ready { IsReady running.old.script.items running.old.page.world }
+    requires begins { begins line running.old ≡ true }
+    requires empty { gathered.old.taken ≡ [] }
+    ensures lines { OnOk result (IsTrace gathered.new.taken (turn_at line (seen_running running.old)).lines) }
+    ensures standing { IfOk result (λ goes_on. left_by goes_on running.new ≡ (turn_at line (seen_running running.old)).standing) }
+    ensures ready { IfOk result (λ goes_on. goes_on ≡ true → IsReady running.new.script.items running.new.page.world) }
     ensures memory { OnErr result (result ≡ Err RunFault.Memory) }
 {
-    let mut gathered = GatherSink::new(alloc);
-    let item = &page.script.items()[page.next];
+    let item = &running.script.items()[running.next];
     match run_item(
         alloc,
-        &mut page.page,
-        &page.script,
+        &mut running.page,
+        &running.script,
         item,
-        &mut gathered,
+        gathered,
         steps,
     ) {
         Ok(()) => {
-            page.next += 1;
-            Ok(gathered)
+            running.next += 1;
+            Ok(true)
         }
         Err(RunFault::Limit { kind, line, number }) => {
-            page.progress = Progress::LimitMet;
-            match write_limit(alloc, kind, line, number, &mut gathered) {
-                Ok(()) => Ok(gathered),
+            match write_limit(alloc, kind, line, number, gathered) {
+                Ok(()) => Ok(false),
                 Err(_) => Err(RunFault::Memory),
             }
         }
         // In memory a write fails for want of it alone.
         Err(RunFault::Memory | RunFault::WriteFault) => Err(RunFault::Memory),
     }
+}
+
+// A page that met a limit isn't run on: its script and its page are dropped.
+fn stop(standing: &mut Standing)
+    ensures { standing.new ≡ LimitMet }
+{
+    *standing = Standing::LimitMet;
+}
+
+// The turn of a page that stands so: its lines are gathered.
+fn turn<L: Ledger>(
+    alloc: Global,
+    standing: &mut Standing,
+    line: u32,
+    gathered: &mut GatherSink,
+    steps: &mut Steps<L>,
+) -> Result<(), RunFault>
+    requires ready { IsReadyStanding standing.old }
+    requires empty { gathered.old.taken ≡ [] }
+    ensures lines { OnOk result (IsTrace gathered.new.taken (turn_at line (seen_standing standing.old)).lines) }
+    ensures standing { OnOk result (seen_standing standing.new ≡ (turn_at line (seen_standing standing.old)).standing) }
+    ensures ready { OnOk result (IsReadyStanding standing.new) }
+    ensures memory { OnErr result (result ≡ Err RunFault.Memory) }
+{
+    let Standing::Running(running) = standing else {
+        return Ok(());
+    };
+    if !next_begins(running, line) {
+        return Ok(());
+    }
+    if !run_next(alloc, running, line, gathered, steps)? {
+        stop(standing);
+    }
+    Ok(())
 }
 
 /// A line of a page: the next item is run where it begins there, and its lines are written with the page's name.
@@ -151,11 +188,7 @@ pub fn take_turn<K: Sink, L: Ledger>(
 {
     // the law by which each line that is gathered ends in its only line feed
     line_ends_once();
-    if !next_begins(page, line) {
-        return Ok(());
-    }
-    match run_next(alloc, page, line, steps) {
-        Ok(gathered) => write_named(alloc, &page.name, gathered.taken(), sink),
-        Err(_) => Err(RunFault::Memory),
-    }
+    let mut gathered = GatherSink::new(alloc);
+    turn(alloc, &mut page.standing, line, &mut gathered, steps)?;
+    write_named(alloc, &page.name, gathered.taken(), sink)
 }

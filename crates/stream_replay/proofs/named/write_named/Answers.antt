@@ -1,7 +1,7 @@
 use Rattle.std.proofs.Common.{◌<◌, ◌≤◌, ap, length, arith, rules}
 use Rattle.std.specs.Prelude.{Ok, Err}
 use Rattle.trace_summary.proofs.Splits.{behind_shorter}
-use Rattle.stream_replay.proofs.NamedLines.{named_lines, named_begun, named_more, named_cut, named_end, named_wrote}
+use Rattle.stream_replay.proofs.NamedLines.{stopped, named_lines, named_begun, named_more, named_cut, named_end, named_wrote}
 use Rattle.stream_replay.proofs.named.write_named.Goals as goal
 
 pub loop-rest-init : goal.loop-rest-init
@@ -10,18 +10,19 @@ loop-rest-init g c = named_begun _ _ _
 pub loop-rest-preserved : goal.loop-rest-preserved
 loop-rest-preserved g c =
     let some : 0 < length c.loop-rest.rest.now = search rules in
-    named_more c.args.name.now c.loop-rest.rest.now c.loop-rest.invariant some c.split_line.ensures.line c.split_line.ensures.rest c.in_default.ensures.0 c.in_default.ensures.1
+    named_more c.args.name.now c.loop-rest.rest.now c.loop-rest.invariant some c.split_line.ensures.line c.split_line.ensures.rest c.in_ok-write_line.ensures.0 c.in_ok-write_line.ensures.1
 
 pub loop-rest-smaller : goal.loop-rest-smaller
 loop-rest-smaller g c =
     let some : 0 < length c.loop-rest.rest.now = search rules in
     omega (arith, behind_shorter c.loop-rest.rest.now some, ap length c.split_line.ensures.rest)
 
-pub returns-in-Err : goal.returns-in-Err
-returns-in-Err g c = λ lines is.
+pub returns-in_err-write_line : goal.returns-in_err-write_line
+returns-in_err-write_line g c = λ lines is.
     let some : 0 < length c.loop-rest.rest.now = search rules in
-    named_wrote {A = Unit {0}} (Err c.in-Err.fault) c.args.name.now c.args.trace.now lines _ _ _ _ c.line_ends_once.ensures is
-    (named_cut (Unit {0}) (Unit {0}) _ _ _ _ _ _ (named_lines c.args.name.now c.args.trace.now) c.split_line.result.0.now c.in-Err.fault c.args.name.now c.loop-rest.rest.now c.loop-rest.invariant some c.split_line.ensures.line c.in-Err.ensures)
+    stopped c.from_residual.result c.in_err-write_line.field-0.0 _ _ _ _ _ c.from_residual.ensures
+    (named_wrote {A = Unit {0}} (Err c.in_err-write_line.field-0.0) c.args.name.now c.args.trace.now lines _ _ _ _ c.line_ends_once.ensures is
+    (named_cut (Unit {0}) (Unit {0}) _ _ _ _ _ _ (named_lines c.args.name.now c.args.trace.now) c.split_line.result.0.now c.in_err-write_line.field-0.0 c.args.name.now c.loop-rest.rest.now c.loop-rest.invariant some c.split_line.ensures.line c.in_err-write_line.ensures))
 
 pub returns : goal.returns
 returns g c = λ lines is.

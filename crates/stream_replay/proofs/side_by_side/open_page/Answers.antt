@@ -6,7 +6,7 @@ use Rattle.trace_runs.specs.Writes.{Wrote}
 use Rattle.stream_runs.specs.Alone.{IsOneLine}
 use Rattle.stream_runs.specs.StreamRuns.{named_text}
 use Rattle.trace_runs.proofs.Writes.{nothing}
-use Rattle.stream_replay.proofs.SideBySide.{on_ok, refused_fit, unrefused_fit, then_wrote, refused_none, refused_one}
+use Rattle.stream_replay.proofs.SideBySide.{on_ok, ready_more, refused_fit, refused_is, refused_none, refused_one, seen_more, then_wrote, unrefused_fit}
 use Rattle.stream_replay.proofs.side_by_side.open_page.Goals as goal
 
 pub returns-in-Ok-clause-wrote : goal.returns-in-Ok-clause-wrote
@@ -45,3 +45,20 @@ returns-in-Err-ScriptLimit-clause-lines g c =
     on_ok c.refuse_page-in-Err-ScriptLimit.result
     (refused_fit (reading c.args.text) (LimitAt c.in-Err-ScriptLimit.kind c.in-Err-ScriptLimit.line) read
     (subst (λ (number : ℕ). IsOneLine (LimitLine c.in-Err-ScriptLimit.kind c.in-Err-ScriptLimit.line number)) c.common.ensures c.ends_once-in-Err-ScriptLimit.ensures))
+
+pub returns-in-Err-Syntax-clause-pages : goal.returns-in-Err-Syntax-clause-pages
+returns-in-Err-Syntax-clause-pages g c =
+    let read = rw c.in-Err-Syntax.field-0-is at c.in-Err-Syntax.ensures.value in
+    seen_more c.refuse_page.result _ _ _ _ c.refuse_page.ensures.pages (refused_is c.args.name (reading c.args.text) (SyntaxAt c.in-Err-Syntax.line c.in-Err-Syntax.column) read)
+
+pub returns-in-Err-Syntax-clause-ready : goal.returns-in-Err-Syntax-clause-ready
+returns-in-Err-Syntax-clause-ready g c = ready_more c.refuse_page.result _ _ _ c.refuse_page.ensures.pages tt
+
+pub returns-in-Err-ScriptLimit-clause-pages : goal.returns-in-Err-ScriptLimit-clause-pages
+returns-in-Err-ScriptLimit-clause-pages g c =
+    let read = rw c.in-Err-ScriptLimit.field-0-is at c.in-Err-ScriptLimit.ensures.value in
+    seen_more c.refuse_page-in-Err-ScriptLimit.result _ _ _ _ c.refuse_page-in-Err-ScriptLimit.ensures.pages
+    (refused_is c.args.name (reading c.args.text) (LimitAt c.in-Err-ScriptLimit.kind c.in-Err-ScriptLimit.line) read)
+
+pub returns-in-Err-ScriptLimit-clause-ready : goal.returns-in-Err-ScriptLimit-clause-ready
+returns-in-Err-ScriptLimit-clause-ready g c = ready_more c.refuse_page-in-Err-ScriptLimit.result _ _ _ c.refuse_page-in-Err-ScriptLimit.ensures.pages tt

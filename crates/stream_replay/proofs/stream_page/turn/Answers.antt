@@ -1,0 +1,23 @@
+use Rattle.std.proofs.Common.{◌∙◌, ap, sym}
+use Rattle.stream_runs.specs.PageRuns.{Turn}
+use Rattle.stream_replay.proofs.Turning.{nothing_said, turn_over, turn_passed}
+use Rattle.stream_replay.proofs.stream_page.turn.Goals as goal
+
+pub returns-in_default-clause-lines : goal.returns-in_default-clause-lines
+returns-in_default-clause-lines g c =
+    nothing_said c.args.gathered.now.taken _ _ c.requires.empty (turn_over c.args.line c.args.standing.now c.in_default.not-Running)
+
+pub returns-in_default-clause-standing : goal.returns-in_default-clause-standing
+returns-in_default-clause-standing g c = ap (λ (turn : Turn). turn.standing) (sym (turn_over c.args.line c.args.standing.now c.in_default.not-Running))
+
+pub returns-then-not-next_begins-clause-lines : goal.returns-then-not-next_begins-clause-lines
+returns-then-not-next_begins-clause-lines g c =
+    rw c.in-Running.is
+    (nothing_said c.args.gathered.now.taken _ _ c.requires.empty
+    (turn_passed c.args.line c.in-Running.running.script.items c.in-Running.running.next c.in-Running.running.page.world (sym c.next_begins.ensures ∙ c.if-not-next_begins.true)))
+
+pub returns-then-not-next_begins-clause-standing : goal.returns-then-not-next_begins-clause-standing
+returns-then-not-next_begins-clause-standing g c =
+    rw c.in-Running.is
+    (ap (λ (turn : Turn). turn.standing)
+    (sym (turn_passed c.args.line c.in-Running.running.script.items c.in-Running.running.next c.in-Running.running.page.world (sym c.next_begins.ensures ∙ c.if-not-next_begins.true))))
