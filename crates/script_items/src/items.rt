@@ -36,10 +36,8 @@ fn run_caught<K: Sink, L: Ledger>(
         (caught (run_command (handlers_in script.now.items) [] (command_of command.now) NoEntry page.old.world)) }
 {
     let nothing = Entries::Nothing;
-    match run_command(alloc, page, script, command, &nothing, None, sink, steps) {
-        Ok(_) => Ok(()),
-        Err(fault) => Err(fault),
-    }
+    run_command(alloc, page, script, command, &nothing, None, sink, steps)?;
+    Ok(())
 }
 
 /// Runs one item of a script, and writes each line as it is said. What it throws ends it alone. Refused as `play`.
@@ -82,10 +80,7 @@ pub fn play<K: Sink, L: Ledger>(
     ensures { Runs goes_on (λ _. page.new.world) result (K.taken sink.old) (K.taken sink.new) (K.faults sink.old) (K.faults sink.new) (run_items script.now.items page.old.world) }
 {
     for item in script.items() {
-        match run_item(alloc, page, script, item, sink, steps) {
-            Ok(()) => {}
-            Err(fault) => return Err(fault),
-        }
+        run_item(alloc, page, script, item, sink, steps)?;
     }
     Ok(())
 }

@@ -50,10 +50,8 @@ pub fn play_to_tick<K: Sink, L: Ledger>(
         if left == 0 {
             return Ok(0);
         }
-        match run_item(alloc, page, script, item, sink, steps) {
-            Ok(()) => left -= ticks_in(item),
-            Err(fault) => return Err(fault),
-        }
+        run_item(alloc, page, script, item, sink, steps)?;
+        left -= ticks_in(item);
     }
     Ok(left)
 }

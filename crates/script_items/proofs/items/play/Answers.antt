@@ -2,6 +2,7 @@ use Rattle.std.proofs.Common.{arith, refl}
 use Rattle.trace_runs.proofs.Following.{begin, rest_same, go_on, end_cut, done}
 use Rattle.trace_runs.proofs.Loops.{each_more, each_none}
 use Rattle.script_items.proofs.Playing.{items_are}
+use Rattle.script_items.proofs.Stopped.{stopped_run}
 use Rattle.script_items.proofs.items.play.Goals as goal
 
 pub loop-item-init : goal.loop-item-init
@@ -17,15 +18,16 @@ loop-item-preserved g c =
       following =
           go_on _ refl
           (rest_same (each_more _ c.items-item-items.result.now c.loop-item.item-index _ _ (omega arith) c.item-item.is) c.loop-item.invariant.following)
-          c.in-Ok.ensures.says;
-      ready = c.in-Ok.ensures.ready;
+          c.in_ok-run_item.ensures.says;
+      ready = c.in_ok-run_item.ensures.ready;
     }
 
-pub returns-in-Err : goal.returns-in-Err
-returns-in-Err g c =
-    end_cut c.in-Err.fault _
+pub returns-in_err-run_item : goal.returns-in_err-run_item
+returns-in_err-run_item g c =
+    stopped_run c.from_residual.result c.in_err-run_item.field-0.0 c.from_residual.ensures
+    (end_cut c.in_err-run_item.field-0.0 _
     (rest_same (each_more _ c.items-item-items.result.now c.loop-item.item-index _ _ (omega arith) c.item-item.is) c.loop-item.invariant.following)
-    c.in-Err.ensures.says
+    c.in_err-run_item.ensures.says)
 
 pub returns : goal.returns
 returns g c =

@@ -1,9 +1,11 @@
 use Rattle.std.proofs.Common.{refl}
 use Rattle.trace_runs.proofs.Runs.{caught_cut, caught_ended}
+use Rattle.script_items.proofs.Stopped.{stopped_run}
 use Rattle.script_items.proofs.items.run_caught.Goals as goal
 
-pub returns-in-Ok : goal.returns-in-Ok
-returns-in-Ok g c = caught_ended _ refl c.in-Ok.ensures.says
+pub returns-in_err-run_command : goal.returns-in_err-run_command
+returns-in_err-run_command g c =
+    stopped_run c.from_residual.result c.in_err-run_command.field-0.0 c.from_residual.ensures (caught_cut c.in_err-run_command.field-0.0 c.in_err-run_command.ensures.says)
 
 pub returns : goal.returns
-returns g c = caught_cut c.in-Err.fault c.in-Err.ensures.says
+returns g c = caught_ended _ refl c.in_ok-run_command.ensures.says

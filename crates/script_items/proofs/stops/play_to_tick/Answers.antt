@@ -3,6 +3,7 @@ use Rattle.script_model.specs.Scripts.{handlers_in}
 use Rattle.page_model.specs.Outcome.{run_item}
 use Rattle.trace_runs.proofs.Following.{begin, rest_same, go_on, end_cut, done}
 use Rattle.script_items.specs.Stops.{tick_count}
+use Rattle.script_items.proofs.Stopped.{stopped_run}
 use Rattle.script_items.proofs.Stopping.{all_here, none_left, no_items, one_more, ticks_more, ticks_none}
 use Rattle.script_items.proofs.stops.play_to_tick.Goals as goal
 
@@ -24,17 +25,18 @@ loop-item-preserved g c =
           go_on _ refl
           (rest_same (one_more (run_item (handlers_in c.args.script.now.items)) c.loop-item.left c.ticks_in-left.result c.items-item-items.result.now c.loop-item.item-index _ _ (omega arith)
           c.item-item.is c.if-left-eq0.false less) c.loop-item.invariant.following)
-          c.in-Ok.ensures.says;
-      ready = c.in-Ok.ensures.ready;
+          c.in_ok-run_item.ensures.says;
+      ready = c.in_ok-run_item.ensures.ready;
       counted = omega (arith, c.loop-item.invariant.counted, more, less, most);
     }
 
-pub returns-in-Err-clause-says : goal.returns-in-Err-clause-says
-returns-in-Err-clause-says g c =
-    end_cut c.in-Err.fault _
+pub returns-in_err-run_item-clause-says : goal.returns-in_err-run_item-clause-says
+returns-in_err-run_item-clause-says g c =
+    stopped_run c.from_residual.result c.in_err-run_item.field-0.0 c.from_residual.ensures
+    (end_cut c.in_err-run_item.field-0.0 _
     (rest_same (one_more (run_item (handlers_in c.args.script.now.items)) c.loop-item.left _ c.items-item-items.result.now c.loop-item.item-index _ _ (omega arith) c.item-item.is
     c.if-left-eq0.false refl) c.loop-item.invariant.following)
-    c.in-Err.ensures.says
+    c.in_err-run_item.ensures.says)
 
 pub returns-then-left-eq0-clause-says : goal.returns-then-left-eq0-clause-says
 returns-then-left-eq0-clause-says g c =
