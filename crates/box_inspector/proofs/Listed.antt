@@ -9,14 +9,7 @@ use Rattle.page_model.specs.Lookups.{element_at, document_at}
 use Rattle.page_model.specs.Documents.{inclusive_descendants, order_down}
 use Rattle.page_model.specs.Shown.{Shown, has_box}
 use Rattle.box_inspector.specs.Boxes.{boxed_elements, elements_below}
-
-filter_append : {A : Type 0} (p : A → Bool) (xs ys : List A) → filter p (xs ++ ys) ≡ filter p xs ++ filter p ys
-filter_append p [] ys = refl
-filter_append p (x ∷ xs) ys = elim (p x) as (λ b. cond b (x ∷ filter p (xs ++ ys)) (filter p (xs ++ ys))
-    ≡ cond b (x ∷ filter p xs) (filter p xs) ++ filter p ys) [
-      | true ↦ ap (λ zs. x ∷ zs) (filter_append p xs ys)
-      | false ↦ filter_append p xs ys
-    ]
+use Rattle.page_documents.proofs.Leading.{filter_append}
 
 filter_flat : (p : ℕ → Bool) (f : ℕ → List ℕ) (xs : List ℕ) → filter p (flat_map f xs) ≡ flat_map (λ x. filter p (f x)) xs
 filter_flat p f [] = refl

@@ -1,18 +1,12 @@
 -- Fields joined to the text of a box.
-use Rattle.std.proofs.Common.{◌≡◌, ◌∙◌, ℕ, List, [], ◌∷◌, ◌++◌, refl, ap, sym, append_assoc}
+use Rattle.std.proofs.Common.{◌≡◌, ◌∙◌, ℕ, List, [], ◌∷◌, ◌++◌, sym}
 use Rattle.std.specs.Prelude.{codes}
-use Rattle.std.specs.List.{join_with_byte}
 use Rattle.word_model.specs.Numbers.{decimal}
 use Rattle.script_model.specs.TraceText.{rect_fields}
-use Rattle.trace_text.specs.Fields.{before, with_fields}
-use Rattle.trace_text.proofs.Joined.{with_before, then_fields}
+use Rattle.trace_text.specs.Fields.{with_fields}
+use Rattle.trace_text.proofs.Joined.{with_before, then_fields, joined_before}
 use Rattle.box_inspector.specs.declared.lines.BoxLine.{BoxLine}
 use Rattle.box_inspector.specs.BoxText.{box_fields, box_text, seen_fields}
-
-joined_before : (first : List ℕ) (fields : List (List ℕ)) (rest : List ℕ) → join_with_byte 32 (first ∷ fields) ++ rest ≡ first ++ before fields rest
-joined_before first [] rest = refl
-joined_before first (field ∷ fields) rest =
-    append_assoc first (32 ∷ join_with_byte 32 (field ∷ fields)) rest ∙ ap (λ r. first ++ (32 ∷ r)) (joined_before field fields rest)
 
 pub box_text_is : (line : BoxLine) → with_fields (codes "box") (box_fields line) ++ (10 ∷ []) ≡ box_text line
 unfolding box_text

@@ -8,6 +8,8 @@ use Rattle.px_units.specs.Rects.{has_points, overlap, meeting, Holds, HeldBy}
 use Rattle.px_units.proofs.Meeting.{in_both, common_points}
 use Rattle.page_model.specs.Chains.{common_part}
 use Rattle.clip_chain.specs.Ranges.{IsEdge, IsSide, IsBounds}
+use Rattle.thresholds.proofs.Areas.{in_order, le_of, lower, upper}
+use Rattle.thresholds.proofs.Crossing.{not_both}
 
 -- what is there only where a test is met
 
@@ -15,7 +17,7 @@ met : (r part : Rect) (b : Bool) → has_points r ≡ b → cond b (Some r) None
 met r part true e h = let same : r ≡ part = cc in (same, ap has_points (sym same) ∙ e)
 met r part false e h = let wrong : None ≡ Some part = h in absurd (let no : ⊥ = cc in no)
 
-lost : (r : Rect) (b : Bool) → cond b (Some r) None ≡ None → b ≡ false
+pub lost : (r : Rect) (b : Bool) → cond b (Some r) None ≡ None → b ≡ false
 lost r true h = cc
 lost r false h = refl
 
@@ -31,11 +33,6 @@ misses a b h = lost (overlap a b) (has_points (overlap a b)) h
 
 crossed : (a b c d : ℤ) → int_le a c ≡ false → int_le (int_max a b) (int_min c d) ≡ false
 crossed a b c d e = grind (arith, ints)
-
-not_both : (p q r s : Bool) → p && q ≡ false → (p ≡ false → r ≡ false) → (q ≡ false → s ≡ false) → r && s ≡ false
-not_both true q true s e f g = g e
-not_both true q false s e f g = refl
-not_both false q r s e f g = ap (λ v. v && s) (f refl)
 
 still_none : (a b : Rect) → has_points a ≡ false → has_points (overlap a b) ≡ false
 still_none a b e =
@@ -110,12 +107,6 @@ record Within (r first : Rect) : Type 0 where
   right : r.right ≤ℤ first.right
   bottom : r.bottom ≤ℤ first.bottom
 
-lower : (a b c : ℤ) → a ≤ℤ b → a ≤ℤ int_max b c
-lower a b c h = grind (arith, ints)
-
-upper : (a b c : ℤ) → b ≤ℤ a → int_min b c ≤ℤ a
-upper a b c h = grind (arith, ints)
-
 shrinks : (first r other : Rect) → Within r first → Within (overlap r other) first
 shrinks first r other w = record {
   left = lower first.left r.left other.left w.left;
@@ -136,13 +127,6 @@ side low high left right g h k s = record {
 
 edge_up : (edge first other : ℤ) → first ≤ℤ edge → edge ≤ℤ other → IsEdge first → IsEdge other → IsEdge edge
 edge_up edge first other g h a b = let low = a.low in let high = b.high in record { low = omega (arith, ints); high = omega (arith, ints) }
-
-in_order : (p q : Bool) → p && q ≡ true → (p ≡ true) × (q ≡ true)
-in_order true q e = (refl, e)
-in_order false q e = let wrong : false ≡ true = e in absurd (let no : ⊥ = cc in no)
-
-le_of : (a b : ℤ) → int_le a b ≡ true → a ≤ℤ b
-le_of a b e = grind (arith, ints)
 
 bounds_within : (first r : Rect) → IsBounds first → Within r first → has_points r ≡ true → IsBounds r
 bounds_within first r bounds w points =

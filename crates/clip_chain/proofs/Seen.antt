@@ -15,11 +15,11 @@ use Rattle.clip_chain.proofs.Parts.{HoldsAll, held_by_part, part_within, meets, 
 abbrev InClip : Scene → ℤ → ℤ → Container → Type 0
 InClip scene x y spot = IfSome (scene.clip spot) (λ (clip : Rect). Holds clip x y)
 
-first_apart : (o : Option Rect) (rs : List Rect) (x y : ℤ) → HoldsAll x y (cons_option o rs) → IfSome o (λ (clip : Rect). Holds clip x y) × HoldsAll x y rs
+pub first_apart : (o : Option Rect) (rs : List Rect) (x y : ℤ) → HoldsAll x y (cons_option o rs) → IfSome o (λ (clip : Rect). Holds clip x y) × HoldsAll x y rs
 first_apart None rs x y h = (tt, h)
 first_apart (Some r) rs x y h = h
 
-first_joined : (o : Option Rect) (rs : List Rect) (x y : ℤ) → IfSome o (λ (clip : Rect). Holds clip x y) → HoldsAll x y rs → HoldsAll x y (cons_option o rs)
+pub first_joined : (o : Option Rect) (rs : List Rect) (x y : ℤ) → IfSome o (λ (clip : Rect). Holds clip x y) → HoldsAll x y rs → HoldsAll x y (cons_option o rs)
 first_joined None rs x y h hs = hs
 first_joined (Some r) rs x y h hs = (h, hs)
 

@@ -19,6 +19,7 @@ use Rattle.page_geometry.proofs.Chains.{above}
 use Rattle.page_geometry.proofs.Ends.{few_between}
 use Rattle.hit_test.specs.Hits.{has_point, hits, is_hit, shows_between}
 use Rattle.hit_test.specs.Painting.{paint_order}
+use Rattle.page_boxes.proofs.Edges.{first_true}
 
 module _ (it : Shown) (page : IsPageTree it.tree) (n : ℕ) (boxed : has_box it n ≡ true) where
   pub to_screen : IsAbove (scene_of it) (view_spot 0) (element_spot n)
@@ -71,15 +72,11 @@ hits_are result numbers world at shown is found =
 
 -- what is hit has a box, so that it is there
 
-and_left : (p q : Bool) → (p && q) ≡ true → p ≡ true
-and_left true q is = refl
-and_left false q is = is
-
 hit_there : (it : Shown) (at : Point) (n : ℕ) → is_hit it at n ≡ true → n < length it.tree.elements
 unfolding is_hit
 hit_there it at n hit =
     made_if_boxed it.tree it.screen n
-    (and_left (has_box it n) (list_all (has_point at) (border_rect it n ∷ viewport_rect it 0 ∷ clips_between it ImplicitRoot n)) hit)
+    (first_true (has_box it n) (list_all (has_point at) (border_rect it n ∷ viewport_rect it 0 ∷ clips_between it ImplicitRoot n)) hit)
 
 pub all_there : (it : Shown) (at : Point) (painted found back : List NodeId) → found ≡ filter (λ (node : NodeId). is_hit it at (node.0)) painted
     → IsPermutation found back → All (λ (node : NodeId). node.0 < length it.tree.elements) back

@@ -8,6 +8,7 @@ use Rattle.px_units.specs.declared.Point.{Point}
 use Rattle.px_units.specs.Rects.{has_points, overlap}
 use Rattle.page_model.specs.Chains.{common_part}
 use Rattle.hit_test.specs.Hits.{has_point, is_between}
+use Rattle.clip_chain.proofs.Parts.{lost}
 
 le_max : (a b x : ℤ) → int_le (int_max a b) x ≡ (int_le a x && int_le b x)
 le_max a b x = cases (int_le a x) (int_le b x) refl refl
@@ -84,10 +85,6 @@ met : (r part : Rect) (b : Bool) → cond b (Some r) None ≡ Some part → r �
 met r part true h = cc
 met r part false h = absurd (let no : ⊥ = cc in no)
 
-missed : (r : Rect) (b : Bool) → cond b (Some r) None ≡ None → b ≡ false
-missed r true h = cc
-missed r false h = refl
-
 pub in_part : (at : Point) (first : Rect) (others : List Rect) (part : Rect) → common_part first others ≡ Some part
     → has_point at part ≡ list_all (has_point at) (first ∷ others)
 unfolding common_part
@@ -97,4 +94,4 @@ in_part at first others part h =
 pub in_nothing : (at : Point) (first : Rect) (others : List Rect) → common_part first others ≡ None → false ≡ list_all (has_point at) (first ∷ others)
 unfolding common_part
 in_nothing at first others h =
-    sym (none_in at (fold overlap first others) (missed (fold overlap first others) (has_points (fold overlap first others)) h)) ∙ in_all at first others
+    sym (none_in at (fold overlap first others) (lost (fold overlap first others) (has_points (fold overlap first others)) h)) ∙ in_all at first others

@@ -33,7 +33,7 @@ told-fewer : (is : Bool) (found : Option Place) (standing : Option Standing) →
 told-fewer true found standing told = refl
 told-fewer false found standing told = told
 
-some_from : {A B : Type 0} (f : A → B) (found : Option A) (y : B) → option_map f found ≡ Some y → is_some found ≡ true
+pub some_from : {A B : Type 0} (f : A → B) (found : Option A) (y : B) → option_map f found ≡ Some y → is_some found ≡ true
 some_from f None y is = cc
 some_from f (Some x) y is = refl
 

@@ -87,17 +87,17 @@ settled_whole time find observer distinct = in_turn time (find observer) [] (obs
 
 -- among all observers, by serial numbers -----------------------------------------------------------------------------------------
 
-abbrev KeepsSubjects : (IntersectionObserver → IntersectionObserver) → Type 0
+abbrev pub KeepsSubjects : (IntersectionObserver → IntersectionObserver) → Type 0
 KeepsSubjects change = (observer : IntersectionObserver) → subjects_of (change observer).registrations ≡ subjects_of (observer.registrations)
 
-standing-changed : (change : IntersectionObserver → IntersectionObserver) → KeepsSubjects change → (serial watcher place : ℕ) (made : List IntersectionObserver) → standing_from serial watcher (change_at change place made) ≡ standing_from serial watcher made
+pub standing-changed : (change : IntersectionObserver → IntersectionObserver) → KeepsSubjects change → (serial watcher place : ℕ) (made : List IntersectionObserver) → standing_from serial watcher (change_at change place made) ≡ standing_from serial watcher made
 standing-changed change keeps serial watcher place [] = refl
 standing-changed change keeps serial watcher zero (x ∷ xs) =
     ap (λ found. option_or (option_map (λ target. record { watcher = watcher; target = target }) found) (standing_from serial (suc watcher) xs)) (same-target_in serial (change x).registrations (x.registrations) (keeps x))
 standing-changed change keeps serial watcher (suc place) (x ∷ xs) =
     ap (option_or (option_map (λ target. record { watcher = watcher; target = target }) (target_in serial (x.registrations)))) (standing-changed change keeps serial (suc watcher) place xs)
 
-settled-keeps : (n time : ℕ) (now : Finding) → KeepsSubjects (settled_at n time now)
+pub settled-keeps : (n time : ℕ) (now : Finding) → KeepsSubjects (settled_at n time now)
 settled-keeps n time now observer = settled-subjects n time now (observer.registrations)
 
 unchanged : (place : ℕ) (made : List IntersectionObserver) → change_at (λ (it : IntersectionObserver). it) place made ≡ made
@@ -143,7 +143,7 @@ subjects-changed change keeps zero (x ∷ xs) (suc k) = refl
 subjects-changed change keeps (suc place) (x ∷ xs) zero = refl
 subjects-changed change keeps (suc place) (x ∷ xs) (suc k) = subjects-changed change keeps place xs k
 
-serials-changed : (change : IntersectionObserver → IntersectionObserver) → KeepsSubjects change → (place : ℕ) (it : IntersectionObservers) → HasSerials it → HasSerials (change_intersection_observer change place it)
+pub serials-changed : (change : IntersectionObserver → IntersectionObserver) → KeepsSubjects change → (place : ℕ) (it : IntersectionObservers) → HasSerials it → HasSerials (change_intersection_observer change place it)
 serials-changed change keeps place it was =
     let now : IntersectionObservers = change_intersection_observer change place it in
     let same : (k : ℕ) → subjects_of (registrations_at now k) ≡ subjects_of (registrations_at it k) = subjects-changed change keeps place (it.made) in

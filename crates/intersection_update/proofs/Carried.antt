@@ -6,7 +6,6 @@ use Rattle.script_model.specs.Margins.{Margins}
 use Rattle.page_model.specs.World.{Root, Finding, Registration, IntersectionObserver, IntersectionObservers}
 use Rattle.page_model.specs.Chains.{moved_out}
 use Rattle.page_model.specs.Lookups.{no_intersection_observer, intersection_observer_at, scroll_margins_at}
-use Rattle.page_documents.proofs.Adopting.{change_length}
 use Rattle.element_tree.specs.declared.container.Container.{Container}
 use Rattle.clip_chain.specs.Scenes.{Scene, through, root_bounds}
 use Rattle.clip_chain.specs.Worlds.{element_spot, spot_of_root}
@@ -23,8 +22,9 @@ use Rattle.candidate_index.specs.Asked.{asked_if, asked_for, steps_if, steps_for
 use Rattle.candidate_index.specs.Held.{kept_of, is_stale, is_stale_now}
 use Rattle.kept_findings.specs.Walks.{EachAlong, AlongChain, AreChained, chain_between, spots_between}
 use Rattle.kept_findings.specs.Views.{seen_for}
-use Rattle.kept_findings.proofs.Settled.{at_changed, standing_settled, serials_settled}
-use Rattle.intersection_update.specs.Updating.{AreAlike, Carried}
+use Rattle.kept_findings.proofs.Settled.{at_changed, standing_settled, serials_settled, alike_by}
+use Rattle.intersection_update.specs.Updating.{Carried}
+use Rattle.element_tree.proofs.Nodes.{length-changed}
 
 pub carried_same : (it : IntersectionObservers) → Carried it it
 carried_same it = record {
@@ -48,12 +48,6 @@ carried_then first second third one two = record {
   count = two.count ∙ one.count;
 }
 
-alike_by : (place : Option Place) (time watcher : ℕ) (now : Finding) (it : IntersectionObservers) → AreAlike (intersection_observer_at it watcher) (intersection_observer_at (settled_standing place time now it) watcher)
-alike_by None time watcher now it = record { root = refl; margins = refl; thresholds = refl }
-alike_by (Some place) time watcher now it =
-    at_changed AreAlike (λ x. record { root = refl; margins = refl; thresholds = refl }) no_intersection_observer (settled_at (place.target) time now)
-    (λ x. record { root = refl; margins = refl; thresholds = refl }) (place.watcher) watcher (it.made)
-
 -- the serial numbers of registrations, which settling leaves
 numbers : List Registration → List ℕ
 numbers xs = map (λ (r : Registration). r.serial) xs
@@ -76,7 +70,7 @@ listed_by (Some place) time watcher now it =
 
 count_by_place : (place : Option Place) (time : ℕ) (now : Finding) (it : IntersectionObservers) → length (settled_standing place time now it).made ≡ length it.made
 count_by_place None time now it = refl
-count_by_place (Some place) time now it = change_length (settled_at (place.target) time now) (place.watcher) (it.made)
+count_by_place (Some place) time now it = length-changed (settled_at (place.target) time now) (place.watcher) (it.made)
 
 pub carried_once : (serial time : ℕ) (now : Finding) (it : IntersectionObservers) → Carried it (with_settled serial time now it)
 carried_once serial time now it = record {

@@ -31,6 +31,7 @@ use Rattle.kept_findings.proofs.Settled.{numbers_apart}
 use Rattle.kept_findings.proofs.Walking.{all_serials, at_serial, along_weaker}
 use Rattle.page_geometry.specs.Scenes.{standings_of}
 use Rattle.intersection_update.specs.Keeping.{HaveChains, is_stale_in, StandsAt, IsSeen, AreLookedAlong, AreKeptTo, HaveLooked}
+use Rattle.kept_findings.proofs.Viewing.{all_to_map}
 
 abbrev Map : Type 0
 Map = FinMap nat_cmp (Option Kept)
@@ -151,11 +152,6 @@ module _ (shown : Shown) (margins : List Margins) (chained : HaveChains shown) (
       at_serial (λ s. stale before s ≡ true) names (filter (stale before) (serials_at it watcher)) same (filter_passes (stale before) (serials_at it watcher)) k none below
 
 -- the spots on the chains of an observer's registrations, once they were looked at -----------------------------------------------------
-
-all_to_map : (P : ℕ → Type 0) (xs : List Registration) → All (λ (r : Registration). P (r.serial)) xs → All P (map (λ (r : Registration). r.serial) xs)
-all_to_map P [] all = All-nil P
-all_to_map P (x ∷ xs) all =
-    All-cons P x.serial (map (λ (r : Registration). r.serial) xs) (All-head (λ (r : Registration). P (r.serial)) x xs all) (all_to_map P xs (All-tail (λ (r : Registration). P (r.serial)) x xs all))
 
 -- a fact of each registration that stands at an observer is one of all that are listed there
 pub all_standing : (P : ℕ → Type 0) (it : IntersectionObservers) (watcher : ℕ) → HasSerials it → ((serial : ℕ) → StandsAt it watcher serial → P serial) → All P (serials_at it watcher)

@@ -6,20 +6,6 @@ use Rattle.std.proofs.lemmas.List.{take-append-drop}
 use Rattle.page_model.specs.Lookups.{entry_or, change_at}
 use Rattle.page_model.specs.Intersections.{places_from}
 
-pub changed_at : {A : Type 0} (default : A) (change : A → A) (place : ℕ) (xs : List A) → place < length xs → entry_or default (change_at change place xs) place ≡ change (entry_or default xs place)
-changed_at default change place [] there = absurd (elim there [ ])
-changed_at default change zero (x ∷ xs) there = refl
-changed_at default change (suc place) (x ∷ xs) there = changed_at default change place xs (omega arith)
-
--- what holds between each entry and what becomes of it, and of one that stays
-pub between : {A : Type 0} (R : A → A → Type 0) → ((x : A) → R x x) → (default : A) (change : A → A) → ((x : A) → R x (change x)) → (place k : ℕ) (xs : List A) →
-    R (entry_or default xs k) (entry_or default (change_at change place xs) k)
-between R same default change each place k [] = same default
-between R same default change each zero zero (x ∷ xs) = each x
-between R same default change each zero (suc k) (x ∷ xs) = same (entry_or default xs k)
-between R same default change each (suc place) zero (x ∷ xs) = same x
-between R same default change each (suc place) (suc k) (x ∷ xs) = between R same default change each place k xs
-
 -- a change that leaves all as it is
 pub unchanged : {A : Type 0} (default : A) (change : A → A) (place : ℕ) (xs : List A) → change (entry_or default xs place) ≡ entry_or default xs place → change_at change place xs ≡ xs
 unchanged default change place [] same = refl

@@ -13,9 +13,9 @@ use Rattle.intersection_observer.proofs.Settling.{quiet_settled}
 use Rattle.page_geometry.specs.Ranges.{IsReached}
 use Rattle.intersection_update.specs.Watching.{AreWatchers}
 use Rattle.intersection_update.specs.Updating.{Carried, AreKept}
-use Rattle.intersection_update.proofs.Lists.{changed_at, between}
 use Rattle.intersection_update.proofs.Carried.{carried_same, carried_then, carried_once}
 use Rattle.intersection_update.proofs.Watching.{kept_settled}
+use Rattle.kept_findings.proofs.Settled.{changed_here, at_changed}
 
 -- queues --------------------------------------------------------------------------------------------------------------------------
 
@@ -40,7 +40,7 @@ news_entries n time now (x ∷ xs) some =
 standing_longer : (standing : Option Standing) (time watcher : ℕ) (now : Finding) (it : IntersectionObservers) → length (queue_in it watcher) ≤ length (queue_in (settled_standing standing time now it) watcher)
 standing_longer None time watcher now it = omega arith
 standing_longer (Some standing) time watcher now it =
-    between (λ (a b : IntersectionObserver). length (a.queue) ≤ length (b.queue)) (λ x. omega arith) no_intersection_observer (settled_at (standing.target) time now)
+    at_changed (λ (a b : IntersectionObserver). length (a.queue) ≤ length (b.queue)) (λ x. omega arith) no_intersection_observer (settled_at (standing.target) time now)
     (λ x. omega (arith, length-append (x.queue) (entries_of (standing.target) time now (x.registrations)))) (standing.watcher) watcher (it.made)
 
 pub settled_longer : (serial time watcher : ℕ) (now : Finding) (it : IntersectionObservers) → length (queue_in it watcher) ≤ length (queue_in (with_settled serial time now it) watcher)
@@ -54,7 +54,7 @@ news_longer serial time watcher target now it found there news =
     let entries : 0 < length (entries_of target time now (x.registrations)) = news_entries target time now (x.registrations) (ap (λ standing. is_news_at standing now it) (sym found) ∙ news) in
     let same : length (queue_in (with_settled serial time now it) watcher) ≡ length (x.queue ++ entries_of target time now (x.registrations)) =
     ap (λ standing. length (queue_in (settled_standing standing time now it) watcher)) found
-    ∙ ap (λ (each : IntersectionObserver). length (each.queue)) (changed_at no_intersection_observer (settled_at target time now) watcher (it.made) there)
+    ∙ ap (λ (each : IntersectionObserver). length (each.queue)) (changed_here no_intersection_observer (settled_at target time now) watcher (it.made) there)
     in
     omega (arith, entries, same, length-append (x.queue) (entries_of target time now (x.registrations)))
 

@@ -10,7 +10,8 @@ use Rattle.page_model.specs.Lookups.{entry_or, no_intersection_observer, interse
 use Rattle.page_model.specs.Intersections.{is_rooted_in, watchers, settled_observer, settling, has_queued}
 use Rattle.intersection_observer.specs.Watchers.{HeldWatchers}
 use Rattle.intersection_update.specs.Updating.{found_through, updated, has_news, IsBegun, IsStopped, first_settled, first_updated, settled_if_rooted}
-use Rattle.intersection_update.proofs.Lists.{map_from, any_from, changed_at, changed_same, unchanged, any_more, firsts, first_at, first_more, first_all, changed_in_turn, each_place, each_first, any_place}
+use Rattle.intersection_update.proofs.Lists.{map_from, any_from, changed_same, unchanged, any_more, firsts, first_at, first_more, first_all, changed_in_turn, each_place, each_first, any_place}
+use Rattle.kept_findings.proofs.Settled.{changed_here}
 
 -- whether one was queued earlier or now
 pub either_queued : (queued more : Bool) (a b c : ℕ) → queued ≡ nat_lt a b → more ≡ nat_lt b c → a ≤ b → b ≤ c → (queued || more) ≡ nat_lt a c
@@ -70,7 +71,7 @@ module _ (shown : Shown) (margins : List Margins) (tree : Tree) (document time :
       in
       let then : intersection_observer_at next.part place ≡ settled_if_rooted shown margins tree document time place (intersection_observer_at was.part place) =
       ap (λ (it : HeldWatchers). intersection_observer_at it.part place) changed
-      ∙ changed_at no_intersection_observer (settled_if_rooted shown margins tree document time place) place (now.part.made) (omega (arith, there, count))
+      ∙ changed_here no_intersection_observer (settled_if_rooted shown margins tree document time place) place (now.part.made) (omega (arith, there, count))
       ∙ ap (settled_if_rooted shown margins tree document time place) here
       in
       ap (λ b. b || more) before

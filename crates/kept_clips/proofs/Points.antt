@@ -1,6 +1,6 @@
 -- The points of a clip are those within what each spot clips to; it is whole where no spot clips.
 use Rattle.std.proofs.Common.{◌≡◌, ◌↔◌, ◌∙◌, ℤ, Bool, true, false, cond, List, [], ◌∷◌, Option, Some, None, ap, refl, sym, subst, arith}
-use Rattle.std.specs.Prelude.{filter_map, fold, int_le, pos, ◌≤ℤ◌, IfSome}
+use Rattle.std.specs.Prelude.{filter_map, fold, int_le, pos, ◌≤ℤ◌}
 use Rattle.std.specs.List.{All, cons_option}
 use Rattle.std.proofs.lemmas.Int.{ints}
 use Rattle.std.proofs.lemmas.List.Elements.{All-head, All-tail, All-cons}
@@ -14,14 +14,7 @@ use Rattle.kept_clips.specs.declared.clip.Clip.{Clip}
 use Rattle.kept_clips.specs.declared.clip.Clip.TheVariants.{Whole, Cut, Nothing}
 use Rattle.kept_clips.specs.Clips.{cut_or_nothing, common_clip, clip_between, Contains, IsWithin}
 use Rattle.kept_clips.proofs.Testing.{both}
-
-first_apart : (o : Option Rect) (rs : List Rect) (x y : ℤ) → HoldsAll x y (cons_option o rs) → IfSome o (λ (clip : Rect). Holds clip x y) × HoldsAll x y rs
-first_apart None rs x y h = (tt, h)
-first_apart (Some r) rs x y h = h
-
-first_joined : (o : Option Rect) (rs : List Rect) (x y : ℤ) → IfSome o (λ (clip : Rect). Holds clip x y) → HoldsAll x y rs → HoldsAll x y (cons_option o rs)
-first_joined None rs x y h hs = hs
-first_joined (Some r) rs x y h hs = (h, hs)
+use Rattle.clip_chain.proofs.Seen.{first_apart, first_joined}
 
 within_each : (scene : Scene) (spots : List Container) (x y : ℤ) → HoldsAll x y (filter_map (scene.clip) spots) → All (IsWithin scene x y) spots
 within_each scene [] x y h = λ k d below. absurd (let no : ⊥ = omega (arith, below) in no)

@@ -1,9 +1,7 @@
 -- What is kept of registrations once one of them is settled.
-use Rattle.std.proofs.Common.{◌≡◌, ◌∙◌, ℕ, zero, suc, ◌<◌, ◌≢◌, Bool, true, false, cond, ◌==◌, ◌&&◌, ◌||◌, not, List, [], ◌∷◌, ◌++◌, length, Option, Some, None, option_map, is_some, unwrap_or, map, ap, refl, sym, subst, inl, inr, arith}
+use Rattle.std.proofs.Common.{◌≡◌, ◌∙◌, ℕ, zero, suc, ◌<◌, ◌≢◌, Bool, true, false, cond, ◌==◌, ◌&&◌, ◌||◌, not, List, [], ◌∷◌, ◌++◌, length, Option, Some, None, option_map, is_some, unwrap_or, ap, refl, sym, subst, inl, inr, arith}
 use Rattle.std.specs.Prelude.{◌⊎◌, nat_eq, find, IfSome}
-use Rattle.std.specs.Option.{option_or}
 use Rattle.std.specs.List.{AllByRecursion, IsDistinct}
-use Rattle.std.proofs.lemmas.List.Elements.{All-weaker}
 use Rattle.std.specs.Ordering.{nat_cmp}
 use Rattle.std.specs.FinMap.{FinMap, get, insert, contains_key}
 use Rattle.std.proofs.lemmas.Bool.{eqb-true, eq-eqb, false≢true}
@@ -14,15 +12,15 @@ use Rattle.page_model.specs.World.{Finding, Registration, IntersectionObserver, 
 use Rattle.page_model.specs.Documents.{is_number}
 use Rattle.page_model.specs.Lookups.{entry_or, change_at, no_intersection_observer, intersection_observer_at, scroll_margins_at, change_intersection_observer}
 use Rattle.page_model.specs.IntersectionObserving.{without_queue}
-use Rattle.page_model.specs.Intersections.{Settled, settled, is_news, is_same_bool}
+use Rattle.page_model.specs.Intersections.{settled, is_news, is_same_bool}
 use Rattle.clip_chain.specs.Scenes.{Scene, through}
 use Rattle.clip_chain.specs.Worlds.{element_spot, spot_of_root}
-use Rattle.intersection_observer.specs.Places.{Standing as Place, has_serial, target_in, standing_from, standing_of}
+use Rattle.intersection_observer.specs.Places.{Standing as Place, has_serial, target_in, standing_of}
 use Rattle.intersection_observer.specs.Seen.{seen_finding}
-use Rattle.intersection_observer.specs.Serials.{HasSerials, IsFound as IsListed, registrations_at, targets_of}
-use Rattle.intersection_observer.specs.Settling.{settled_if, settled_at, settled_standing, with_settled, is_news_of, is_news_at, is_news_for}
+use Rattle.intersection_observer.specs.Serials.{HasSerials, registrations_at, targets_of}
+use Rattle.intersection_observer.specs.Settling.{settled_at, settled_standing, with_settled, is_news_of, is_news_at, is_news_for}
 use Rattle.intersection_observer.proofs.Standing.{StandsAt, stands_at, stands-there, standing-made}
-use Rattle.intersection_observer.proofs.Subjects.{subjects_of, same-target_in, same-all, same-targets, settled-subjects}
+use Rattle.intersection_observer.proofs.Subjects.{subjects_of}
 use Rattle.candidate_index.specs.declared.index.Kept.{Kept}
 use Rattle.candidate_index.specs.Held.{kept_of, IsFound, AreFound}
 use Rattle.candidate_index.proofs.Found.{kept_inserted, found_inserted}
@@ -35,6 +33,8 @@ use Rattle.kept_findings.proofs.Registering.{there_still}
 use Rattle.kept_findings.specs.Views.{seen_by, seen_for}
 use Rattle.kept_findings.specs.Registered.{spots_of, AreHeld, IsSettled, AreRegistered}
 use Rattle.kept_findings.proofs.Viewing.{exact_unheld, exact_roomier}
+use Rattle.intersection_observer.proofs.Only.{registrations_once}
+use Rattle.intersection_observer.proofs.Settling.{KeepsSubjects, standing-changed, settled-keeps, serials-changed}
 
 -- lists in which one entry is changed
 
@@ -73,36 +73,9 @@ apart_test a b apart = by_test (a == b) refl
 
 -- where registrations stand stays
 
-abbrev KeepsSubjects : (IntersectionObserver → IntersectionObserver) → Type 0
-KeepsSubjects change = (observer : IntersectionObserver) → subjects_of (change observer).registrations ≡ subjects_of (observer.registrations)
-
-standing-changed : (change : IntersectionObserver → IntersectionObserver) → KeepsSubjects change → (serial watcher place : ℕ) (made : List IntersectionObserver) → standing_from serial watcher (change_at change place made) ≡ standing_from serial watcher made
-standing-changed change keeps serial watcher place [] = refl
-standing-changed change keeps serial watcher zero (x ∷ xs) =
-    ap (λ found. option_or (option_map (λ target. record { watcher = watcher; target = target }) found) (standing_from serial (suc watcher) xs)) (same-target_in serial (change x).registrations (x.registrations) (keeps x))
-standing-changed change keeps serial watcher (suc place) (x ∷ xs) =
-    ap (option_or (option_map (λ target. record { watcher = watcher; target = target }) (target_in serial (x.registrations)))) (standing-changed change keeps serial (suc watcher) place xs)
-
-settled-keeps : (n time : ℕ) (now : Finding) → KeepsSubjects (settled_at n time now)
-settled-keeps n time now observer = settled-subjects n time now (observer.registrations)
-
 subjects-changed : (change : IntersectionObserver → IntersectionObserver) → KeepsSubjects change → (place : ℕ) (it : IntersectionObservers) (k : ℕ) → subjects_of (registrations_at (change_intersection_observer change place it) k) ≡ subjects_of (registrations_at it k)
 subjects-changed change keeps place it k =
     at_changed (λ (a b : IntersectionObserver). subjects_of (b.registrations) ≡ subjects_of (a.registrations)) (λ x. refl) no_intersection_observer change keeps place k (it.made)
-
--- each registration has a serial number of its own as before
-serials-changed : (change : IntersectionObserver → IntersectionObserver) → KeepsSubjects change → (place : ℕ) (it : IntersectionObservers) → HasSerials it → HasSerials (change_intersection_observer change place it)
-serials-changed change keeps place it was =
-    let now : IntersectionObservers = change_intersection_observer change place it in
-    let same : (k : ℕ) → subjects_of (registrations_at now k) ≡ subjects_of (registrations_at it k) = subjects-changed change keeps place it in
-    record {
-      found =
-          λ watcher.
-          same-all (λ each. standing_of (each.0) now ≡ Some (record { watcher = watcher; target = each.1 })) (registrations_at now watcher) (registrations_at it watcher) (same watcher)
-          (All-weaker (IsListed it watcher) (IsListed now watcher) (λ each at. standing-changed change keeps (each.serial) 0 place (it.made) ∙ at) (registrations_at it watcher) (was.found watcher));
-      fresh = λ serial above. standing-changed change keeps serial 0 place (it.made) ∙ was.fresh serial above;
-      targets = λ watcher. subst (IsDistinct nat_eq) (sym (same-targets (registrations_at now watcher) (registrations_at it watcher) (same watcher))) (was.targets watcher);
-    }
 
 standing_by : (place : Option Place) (time : ℕ) (now : Finding) (it : IntersectionObservers) (other : ℕ) → standing_of other (settled_standing place time now it) ≡ standing_of other it
 standing_by None time now it other = refl
@@ -125,27 +98,24 @@ pub record AreAlike (a b : IntersectionObserver) : Type 0 where
   pub root : b.root ≡ a.root
   pub thresholds : b.thresholds ≡ a.thresholds
 
-alike_by : (place : Option Place) (time watcher : ℕ) (now : Finding) (it : IntersectionObservers) → AreAlike (intersection_observer_at it watcher) (intersection_observer_at (settled_standing place time now it) watcher)
+pub alike_by : (place : Option Place) (time watcher : ℕ) (now : Finding) (it : IntersectionObservers) → AreAlike (intersection_observer_at it watcher) (intersection_observer_at (settled_standing place time now it) watcher)
 alike_by None time watcher now it = record { root = refl; thresholds = refl }
 alike_by (Some place) time watcher now it =
     at_changed AreAlike (λ x. record { root = refl; thresholds = refl }) no_intersection_observer (settled_at (place.target) time now) (λ x. record { root = refl; thresholds = refl }) (place.watcher) watcher (it.made)
 
 -- news ---------------------------------------------------------------------------------------------------------------------------------
 
-once : ℕ → ℕ → Finding → List Registration → List Registration
-once n time now xs = map (λ (it : Settled). it.registration) (map (settled_if n time now) xs)
-
 -- of another target
-news_apart : (m n time : ℕ) (f now : Finding) (xs : List Registration) → (¬ m ≡ n) → is_news_of m f (once n time now xs) ≡ is_news_of m f xs
-unfolding once
+news_apart : (m n time : ℕ) (f now : Finding) (xs : List Registration) → (¬ m ≡ n) → is_news_of m f (registrations_once n time now xs) ≡ is_news_of m f xs
+unfolding registrations_once
 news_apart m n time f now [] apart = refl
 news_apart m n time f now (x ∷ xs) apart =
     elim (x.target == n) as (λ is. (x.target == n) ≡ is →
-    ((((cond is (settled time now x) (record { registration = x; entry = None })).registration.target == m) && is_news (cond is (settled time now x) (record { registration = x; entry = None })).registration f) || is_news_of m f (once n time now xs))
+    ((((cond is (settled time now x) (record { registration = x; entry = None })).registration.target == m) && is_news (cond is (settled time now x) (record { registration = x; entry = None })).registration f) || is_news_of m f (registrations_once n time now xs))
     ≡ (((x.target == m) && is_news x f) || is_news_of m f xs)) [
       | true ↦ λ is.
           let other : (x.target == m) ≡ false = apart_test x.target m (λ same. apart (sym same ∙ eqb-true x.target n is)) in
-          ap (λ b. (b && is_news (settled time now x).registration f) || is_news_of m f (once n time now xs)) other
+          ap (λ b. (b && is_news (settled time now x).registration f) || is_news_of m f (registrations_once n time now xs)) other
           ∙ news_apart m n time f now xs apart
           ∙ ap (λ b. (b && is_news x f) || is_news_of m f xs) (sym other)
       | false ↦ λ is. ap (λ b. ((x.target == m) && is_news x f) || b) (news_apart m n time f now xs apart)
@@ -168,15 +138,15 @@ never true c e = e
 never false c e = refl
 
 -- of what was settled by the same
-own_news : (n time : ℕ) (f now : Finding) (xs : List Registration) → f.index ≡ now.index → f.meets ≡ now.meets → is_news_of n f (once n time now xs) ≡ false
-unfolding once
+own_news : (n time : ℕ) (f now : Finding) (xs : List Registration) → f.index ≡ now.index → f.meets ≡ now.meets → is_news_of n f (registrations_once n time now xs) ≡ false
+unfolding registrations_once
 own_news n time f now [] index meets = refl
 own_news n time f now (x ∷ xs) index meets =
     elim (x.target == n) as (λ is. (x.target == n) ≡ is →
-    ((((cond is (settled time now x) (record { registration = x; entry = None })).registration.target == n) && is_news (cond is (settled time now x) (record { registration = x; entry = None })).registration f) || is_news_of n f (once n time now xs))
+    ((((cond is (settled time now x) (record { registration = x; entry = None })).registration.target == n) && is_news (cond is (settled time now x) (record { registration = x; entry = None })).registration f) || is_news_of n f (registrations_once n time now xs))
     ≡ false) [
-      | true ↦ λ is. ap (λ b. b || is_news_of n f (once n time now xs)) (never (x.target == n) (is_news (settled time now x).registration f) (no_news time f now x index meets)) ∙ own_news n time f now xs index meets
-      | false ↦ λ is. ap (λ b. (b && is_news x f) || is_news_of n f (once n time now xs)) is ∙ own_news n time f now xs index meets
+      | true ↦ λ is. ap (λ b. b || is_news_of n f (registrations_once n time now xs)) (never (x.target == n) (is_news (settled time now x).registration f) (no_news time f now x index meets)) ∙ own_news n time f now xs index meets
+      | false ↦ λ is. ap (λ b. (b && is_news x f) || is_news_of n f (registrations_once n time now xs)) is ∙ own_news n time f now xs index meets
     ] refl
 
 -- a target is that of one serial number alone
@@ -212,7 +182,7 @@ target_there serial it place found =
 
 module _ (it : IntersectionObservers) (serials : HasSerials it) (serial time : ℕ) (now : Finding) where
   other_by : (other : ℕ) (f : Finding) → (¬ other ≡ serial) → (one two : Option Place) → standing_of serial it ≡ one → standing_of other it ≡ two → is_news_at two f it ≡ false → is_news_at two f (settled_standing one time now it) ≡ false
-  unfolding once
+  unfolding registrations_once
   other_by other f apart None two e g quiet = quiet
   other_by other f apart (Some q) None e g quiet = refl
   other_by other f apart (Some q) (Some p) e g quiet = elim (numbers_apart p.target q.target) [
@@ -236,7 +206,7 @@ module _ (it : IntersectionObservers) (serials : HasSerials it) (serial time : �
       ∙ other_by other f apart (standing_of serial it) (standing_of other it) refl refl quiet
 
   own_by : (f : Finding) → f.index ≡ now.index → f.meets ≡ now.meets → (one : Option Place) → standing_of serial it ≡ one → is_news_at one f (settled_standing one time now it) ≡ false
-  unfolding once
+  unfolding registrations_once
   own_by f index meets None e = refl
   own_by f index meets (Some p) e =
       ap (λ (x : IntersectionObserver). is_news_of p.target f (x.registrations)) (changed_here no_intersection_observer (settled_at (p.target) time now) p.watcher (it.made) (stands-there serial (it.made) p e))

@@ -51,7 +51,7 @@ pub view_is : (it : IntersectionObservers) (margins : List Margins) (watcher : �
 view_is it margins watcher root own scene rooted has = λ i. through (rooted i) (has i) scene
 
 -- the registrations of an observer stand there
-all_to_map : (P : ℕ → Type 0) (xs : List Registration) → All (λ (r : Registration). P (r.serial)) xs → All P (map (λ (r : Registration). r.serial) xs)
+pub all_to_map : (P : ℕ → Type 0) (xs : List Registration) → All (λ (r : Registration). P (r.serial)) xs → All P (map (λ (r : Registration). r.serial) xs)
 all_to_map P [] all = All-nil P
 all_to_map P (x ∷ xs) all =
     All-cons P x.serial (map (λ (r : Registration). r.serial) xs) (All-head (λ (r : Registration). P (r.serial)) x xs all) (all_to_map P xs (All-tail (λ (r : Registration). P (r.serial)) x xs all))

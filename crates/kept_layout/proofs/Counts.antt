@@ -47,7 +47,7 @@ inputs_are inputs others same =
     ∙ ap (λ h. let i : Inputs = record { width = others.width; height = h; flow = inputs.flow } in i) (height_is inputs.height others.height sizes.1)
     ∙ ap (λ f. let i : Inputs = record { width = others.width; height = others.height; flow = f } in i) (flow_is inputs.flow others.flow parts.1)
 
-neither : (a b : Bool) → (a || b) ≡ false → (a ≡ false) × (b ≡ false)
+pub neither : (a b : Bool) → (a || b) ≡ false → (a ≡ false) × (b ≡ false)
 neither true b is = cc
 neither false b is = (refl, is)
 

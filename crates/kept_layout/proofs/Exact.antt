@@ -26,7 +26,7 @@ sound_in_flow at slot sound = record {
   right = λ n found unmarked held. sound.right n found refl unmarked held;
 }
 
-some_same : (o : Option Inputs) (a b : Inputs) → o ≡ Some a → o ≡ Some b → a ≡ b
+pub some_same : (o : Option Inputs) (a b : Inputs) → o ≡ Some a → o ≡ Some b → a ≡ b
 some_same o a b first second = cc
 
 -- the box of a node's parent is held, and the node is displayed in it

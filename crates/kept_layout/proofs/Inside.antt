@@ -13,15 +13,12 @@ use Rattle.kept_layout.specs.Due.{due_count}
 use Rattle.kept_layout.specs.Sound.{IsShownIn, IsCounted, outside_found, has_outside, HasSlots}
 use Rattle.kept_layout.specs.Walks.{IsSettled, IsSoundInFlow, IsFramed, KeepsUnboxed, IsOutsideOf, IsEntered, IsBroughtTo, IsRefreshedInside}
 use Rattle.kept_layout.proofs.Entering.{brought_on}
-use Rattle.kept_layout.proofs.Exact.{kid_settled}
+use Rattle.kept_layout.proofs.Exact.{kid_settled, some_same}
 use Rattle.kept_layout.proofs.Heights.{any_none}
 use Rattle.kept_layout.proofs.Lists.{decide, before_has, before_self, has_end, none_has}
 use Rattle.kept_layout.proofs.Shapes.{IsShaped}
 use Rattle.kept_layout.proofs.Subtrees.{below, some_kid, off_parent, outside_kid, apart_kids}
 use Rattle.kept_layout.proofs.Wanted.{under, over, wanted_kid}
-
-some_same : (o : Option Inputs) (a b : Inputs) → o ≡ Some a → o ≡ Some b → a ≡ b
-some_same o a b first second = cc
 
 -- a displayed child where nothing is out of flow
 nothing_out : (hidden flow within : Bool) → hidden ≡ false → (not hidden && (not flow || within)) ≡ false → (flow ≡ true) × (within ≡ false)

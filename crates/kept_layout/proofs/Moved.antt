@@ -1,5 +1,5 @@
 -- At which nodes the calls of a tree change what layout sees.
-use Rattle.std.proofs.Common.{◌≡◌, ℕ, zero, suc, List, [], ◌∷◌, ◌++◌, length, Option, Some, None, option_map, Bool, true, false, cond, nat_eq, ◌||◌, slice_get, refl, ap, sym, ◌∙◌, inl, inr, arith}
+use Rattle.std.proofs.Common.{◌≡◌, ℕ, zero, suc, List, [], ◌∷◌, ◌++◌, length, Option, Some, None, option_map, true, false, cond, nat_eq, ◌||◌, slice_get, refl, ap, sym, ◌∙◌, inl, inr, arith}
 use Rattle.std.proofs.lemmas.Bool.{false≢true}
 use Rattle.std.proofs.lemmas.Bool.Decides.{nat_tests}
 use Rattle.layout_model.specs.Styles.{Style, StaticPosition}
@@ -17,10 +17,7 @@ use Rattle.block_layout.proofs.Nodes.{parent_is, children_is}
 use Rattle.kept_layout.specs.Changes.{IsLike, ChangesOnly}
 use Rattle.kept_layout.proofs.Lists.{decide, apart, itself}
 use Rattle.kept_layout.proofs.Shapes.{kid_listed}
-
-neither : (a b : Bool) → (a || b) ≡ false → (a ≡ false) × (b ≡ false)
-neither true b is = cc
-neither false b is = (refl, is)
+use Rattle.kept_layout.proofs.Counts.{neither}
 
 module _ {P : Type 0} where
   -- a list with an item changed, at another place

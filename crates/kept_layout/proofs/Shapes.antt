@@ -20,7 +20,7 @@ pub record IsShaped (at : ℕ → Node) : Type 0 where
   pub once : (p : ℕ) → IsOnce (kids_of (at p))
   pub listed : (c p : ℕ) → (at c).parent ≡ Some p → has (at p).children c ≡ true
 
-kid_in : (kind : Kind) (children : List ℕ) (c : ℕ) → has (inner_children kind children) c ≡ true → has children c ≡ true
+pub kid_in : (kind : Kind) (children : List ℕ) (c : ℕ) → has (inner_children kind children) c ≡ true → has children c ≡ true
 kid_in BlockKind children c kid = kid
 kid_in (ImageKind width height) children c kid = cc
 kid_in FrameKind children c kid = cc

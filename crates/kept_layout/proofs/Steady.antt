@@ -115,7 +115,7 @@ module _ (at : ℕ → Node) (shaped : IsShaped at) (x : ℕ) (old new : ℕ →
   sound_set = record { marks = λ p c counted marked. marks_set p c counted marked; right = λ n found unmarked held. right_set n found unmarked held }
 
 -- nodes are marked
-found_marked : (b : Bool) (slot : Slot) → (marked_if b slot).found ≡ slot.found
+pub found_marked : (b : Bool) (slot : Slot) → (marked_if b slot).found ≡ slot.found
 found_marked true slot = refl
 found_marked false slot = refl
 

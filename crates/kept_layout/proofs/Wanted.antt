@@ -19,7 +19,7 @@ block_of BlockKind children c kid = refl
 block_of (ImageKind width height) children c kid = cc
 block_of FrameKind children c kid = cc
 
-block_kids : (kind : Kind) (children : List ℕ) → is_block kind ≡ true → inner_children kind children ≡ children
+pub block_kids : (kind : Kind) (children : List ℕ) → is_block kind ≡ true → inner_children kind children ≡ children
 block_kids BlockKind children is = refl
 block_kids (ImageKind width height) children is = cc
 block_kids FrameKind children is = cc

@@ -15,5 +15,5 @@ pub use laws::{
     new_nodes_need_no_mark, trees_change_at_few_nodes,
 };
 pub use measures::KeptMeasures;
-pub use positions::{Offsets, Shift};
+pub use positions::Shift;
 pub use slots::{Found, Slot};

@@ -8,11 +8,11 @@ use Rattle.page_model.specs.World.{Element, Observation, ResizeObservers, Contai
 use Rattle.page_model.specs.Documents.{container_of, removed, linked, inserted, adopted, shown, inclusive_descendants}
 use Rattle.page_model.specs.Edits.{with_element, with_frame, change_item}
 use Rattle.page_model.specs.Scrolling.{scrolled_to, scrolled_by}
-use Rattle.page_model.specs.Steps.{Step, Did, Threw, Met, Effect}
+use Rattle.page_model.specs.Steps.{Step, Did, Effect}
 use Rattle.page_model.specs.Operands.{Present, Handlers, element_meant}
 use Rattle.page_model.specs.Commands.{does, with_tree, with_intersections, with_listeners, making, growing, loading, placing}
 use Rattle.page_laws.specs.Successors.{OnDid}
-use Rattle.page_laws.proofs.Steps.{bind, bind-in, known, both, did}
+use Rattle.page_laws.proofs.Steps.{bind, bind-in, known, both, did, of_did}
 use Rattle.page_laws.proofs.Depths.{parent_in, parent-kept, parent-kept_each, parent-unlinked, parent-elsewhere}
 use Rattle.loop_laws.specs.Uprooting.{moved_operand}
 use Rattle.loop_laws.proofs.Waiting.{AreDue, more-due, target-due, no-target-due, no-targets-due}
@@ -77,15 +77,9 @@ module _ (Spared : ℕ → Type 0) (tree : Tree) where
     unfolding placing
     placing-kept container sibling = search (both, did, inserted-kept) depth 9
 
-did-value : {A : Type 0} (step : Step A) (value : A) (Holds : A → Type 0) → step ≡ Did value → OnDid step Holds → Holds value
-unfolding OnDid
-did-value (Did other) value Holds same there = subst Holds (let is : other ≡ value = cc in is) there
-did-value (Threw exception) value Holds same there = absurd cc
-did-value (Met limit) value Holds same there = absurd cc
-
 module _ (names : List Name) (present : Present) (node : Operand) (n : ℕ) (is : element_meant names present node ≡ Did n) (tree : Tree) where
   spared-others : (m : ℕ) → IsSpared names present (Some node) m → m ≢ n
-  spared-others m spared = did-value (element_meant names present node) n (λ (n : ℕ). m ≢ n) is spared
+  spared-others m spared = of_did (element_meant names present node) n (λ (n : ℕ). m ≢ n) is spared
 
   meant-removed : KeepsParents (IsSpared names present (Some node)) tree (removed tree n)
   meant-removed = removed-kept (IsSpared names present (Some node)) tree n spared-others

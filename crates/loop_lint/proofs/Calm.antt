@@ -26,14 +26,13 @@ use Rattle.page_laws.proofs.Lists.{all-filter, less-more}
 use Rattle.page_laws.proofs.Unboxed.{in-range-made, element-boxes, frame-boxes}
 use Rattle.page_laws.proofs.InRange.{does-in}
 use Rattle.page_laws.proofs.Keeping.{counted}
-use Rattle.page_laws.proofs.RunsInRange.{IsEntryIn, same-count}
+use Rattle.page_laws.proofs.RunsInRange.{IsEntryIn, same-count, present-in}
 use Rattle.page_laws.specs.Making.{NamesMade, KeepsBoxes}
 use Rattle.loop_laws.specs.Moments.{Moment}
 use Rattle.loop_laws.proofs.Waiting.{changed-at, made-at}
 use Rattle.loop_laws.proofs.Walk.{HandlerHolds, IsAlong, call-along, on_did-given}
 use Rattle.loop_lint.specs.Verdicts.{disturbs}
 use Rattle.loop_lint.proofs.Holding.{Fails}
-use Rattle.loop_lint.proofs.Held.{present-in}
 
 -- where elements and documents are made ---------------------------------------------------------------------------------------
 

@@ -1,6 +1,6 @@
 -- What each world of a run is, where each `ro` names a loop handler: numbers are in range, limits are kept, and each handler of a
 -- resize observer is a loop handler.
-use Rattle.std.proofs.Common.{◌≡◌, refl, sym, subst, arith, ◌≤◌}
+use Rattle.std.proofs.Common.{◌≡◌, refl, sym, subst, arith}
 use Rattle.std.specs.Prelude.{ℕ, ◌<◌, Bool, true, cond, List, [], ◌∷◌, length, Option, Some, None, ⊤}
 use Rattle.std.specs.List.{AllByRecursion}
 use Rattle.script_model.specs.Syntax.{Action, Command, Item, Outside, Tick, Handler}
@@ -12,7 +12,7 @@ use Rattle.text_io.specs.declared.kinds.LimitKind.TheVariants as limits
 use Rattle.page_model.specs.World.{World, Observation, ResizeObservers}
 use Rattle.page_model.specs.Lookups.{resize_observer_at}
 use Rattle.page_model.specs.Gathering.{sight_of, is_of, without_active}
-use Rattle.page_model.specs.Operands.{Present, NoEntry, ResizeEntry, IntersectionEntry}
+use Rattle.page_model.specs.Operands.{Present, NoEntry}
 use Rattle.page_model.specs.Commands.{does}
 use Rattle.page_model.specs.Callbacks.{Script, Entries, handler_names, presents, run_command, call}
 use Rattle.page_model.specs.Ranges.{counts_of, IsInRange, IsPresentIn}
@@ -25,7 +25,7 @@ use Rattle.page_laws.proofs.Waiting.{tasks-alike}
 use Rattle.page_laws.proofs.Changes.{IsNext, gather-next, reported-next, emptied-next}
 use Rattle.page_laws.proofs.Limits.{as-many, counted-within}
 use Rattle.page_laws.proofs.Turns.{call-within, command-within, opening-within}
-use Rattle.page_laws.proofs.RunsInRange.{IsEntryIn, observed-in, queue-in, if-own, call-in, command-in, opening-in}
+use Rattle.page_laws.proofs.RunsInRange.{IsEntryIn, observed-in, queue-in, if-own, call-in, command-in, opening-in, present-in}
 use Rattle.page_laws.proofs.Later.{all-so}
 use Rattle.loop_laws.specs.Moments.{Moment}
 use Rattle.loop_laws.specs.RunLoops.{Loop, loops_of_run}
@@ -33,11 +33,6 @@ use Rattle.loop_laws.proofs.Walk.{CommandHolds, BlockHolds, HandlerHolds, on_did
 use Rattle.loop_lint.specs.LoopHandlers.{is_empty, is_unnamed, loop_handler_lines}
 use Rattle.loop_lint.proofs.Holding.{ItemHolds, Names, IsClean, block-holds, all-named, handlers-hold, loop-handlers-clean}
 use Rattle.loop_lint.proofs.Tame.{AreTame, changed-tame, gathering-tame, does-tame}
-
-pub present-in : (k : ℕ) (world : World) (present : Present) → k ≤ length world.tree.elements → IsEntryIn k present → IsPresentIn world present
-present-in k world NoEntry most is = tt
-present-in k world (ResizeEntry target) most is = omega (arith, most, is)
-present-in k world (IntersectionEntry target meets) most is = omega (arith, most, is)
 
 -- of a script without lines of a test in its loop handlers
 module _ (test : Action → Bool) (items : List Item) (empty : is_empty (loop_handler_lines test items) ≡ true) where

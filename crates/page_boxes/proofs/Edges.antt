@@ -1,8 +1,8 @@
 -- What one box reaches by itself is no more than what all boxes reach.
-use Rattle.std.proofs.Common.{◌≡◌, ◌≤◌, ◌+◌, ◌-◌, ℕ, ℤ, Bool, true, false, cond, List, [], ◌∷◌, Some, None, nat_eq, eqb-true, refl, ap, sym, subst, ◌∙◌, arith}
+use Rattle.std.proofs.Common.{◌≡◌, ◌≤◌, ◌+◌, ◌-◌, ℕ, ℤ, Bool, true, false, cond, List, [], ◌∷◌, Some, None, nat_eq, refl, ap, sym, subst, ◌∙◌, arith}
 use Rattle.std.proofs.lemmas.Bool.Decides.{nat_tests}
 use Rattle.std.proofs.lemmas.Int.{ints}
-use Rattle.std.specs.Prelude.{◌||◌, ◌&&◌, not, is_some, pos, negsuc, ◌+ℤ◌, ◌-ℤ◌, unsigned_abs, Contains}
+use Rattle.std.specs.Prelude.{◌&&◌, not, is_some, pos, negsuc, ◌+ℤ◌, ◌-ℤ◌, unsigned_abs, Contains}
 use Rattle.px_units.specs.Lengths.{cap, at_least_zero}
 use Rattle.px_units.specs.declared.Size.{Size}
 use Rattle.px_units.specs.declared.Point.{Point}
@@ -19,8 +19,6 @@ use Rattle.layout_model.proofs.Clipped.{clipped_unheld, clipped_held}
 use Rattle.layout_model.proofs.FlatPlaces.{flat_of_top, flat_of_static}
 use Rattle.layout_model.proofs.Farthest.{edges_within}
 use Rattle.layout_model.proofs.Reaches.{reach_is, view_is, capped_order, reached, reached_in_view}
-use Rattle.layout_model.proofs.Trees.{contains_next}
-use Rattle.element_tree.specs.Forest.{has}
 use Rattle.page_model.specs.Documents.{is_number}
 use Rattle.page_model.specs.PageBoxes.{view_with}
 use Rattle.block_layout.specs.Seen.{as_size, as_point}
@@ -68,7 +66,7 @@ block_of false visible inner clip is = cc
 scroller_block : (node : Node) → is_scroll_container node ≡ true → is_block node.item.kind ≡ true
 scroller_block node is = block_of (is_block node.item.kind) (is_visible node.item.style.overflow) (is_some node.parent) (is_clip node.item.style.overflow) is
 
-first_true : (first second : Bool) → (first && second) ≡ true → first ≡ true
+pub first_true : (first second : Bool) → (first && second) ≡ true → first ≡ true
 first_true true second is = refl
 first_true false second is = cc
 
@@ -88,14 +86,6 @@ edge_along z offset size border = less_is (z +ℤ pos offset +ℤ pos size -ℤ 
 
 edge_on_top : (offset size : ℕ) → at_least_zero (pos 0 +ℤ pos offset +ℤ pos size -ℤ pos 0) ≡ offset + size - 0
 edge_on_top offset size = less_is (pos 0 +ℤ pos offset +ℤ pos size -ℤ pos 0) (offset + size) 0 (omega (arith, ints))
-
-pub listed_in : (xs : List ℕ) (c : ℕ) → has xs c ≡ true → Contains xs c
-listed_in [] c kid = cc
-listed_in (x ∷ xs) c kid = by_test (nat_eq c x) refl (listed_in xs c)
-  where
-    by_test : (same : Bool) → nat_eq c x ≡ same → (has xs c ≡ true → Contains xs c) → Contains (x ∷ xs) c
-    by_test true e later = (0, omega arith, sym (eqb-true c x e))
-    by_test false e later = contains_next x xs c (later (let rest : has xs c ≡ true = ap (λ b. b || has xs c) (sym e) ∙ kid in rest))
 
 module _ (at : ℕ → Node) (view : View) (kept : List Slot) (holds : HoldsAll at view kept) where
   own_box : (n : ℕ) (inputs : Inputs) (own : Box) → inputs_in_view at view n ≡ Some inputs → Some own ≡ held_in kept n → own ≡ box_in at inputs n

@@ -24,7 +24,7 @@ use Rattle.page_boxes.specs.Fresh.{IsFreshIn}
 use Rattle.page_boxes.specs.Pages.{seen_pair}
 use Rattle.page_boxes.proofs.Boxed.{boxed_top}
 use Rattle.page_boxes.proofs.Parents.{some_found}
-use Rattle.page_boxes.proofs.Shown.{same_length}
+use Rattle.positioned_layout.proofs.Numbers.{pos_abs}
 
 past_end : (elements : List Element) (n : ℕ) → length elements ≤ n → slice_get elements n ≡ None
 past_end [] n past = refl
@@ -96,8 +96,8 @@ module _ (tree : Tree) (screen : Screen) where
 
 pub size_natural : (size : Size) → IsNatural size → size ≡ as_size (seen_pair size)
 size_natural size natural =
-    ap (λ width. let it : Size = record { width = width; height = size.height } in it) (sym (same_length size.width natural.0.0))
-    ∙ ap (λ height. let it : Size = record { width = pos (unsigned_abs size.width); height = height } in it) (sym (same_length size.height natural.1.0))
+    ap (λ width. let it : Size = record { width = width; height = size.height } in it) (sym (pos_abs size.width natural.0.0))
+    ∙ ap (λ height. let it : Size = record { width = pos (unsigned_abs size.width); height = height } in it) (sym (pos_abs size.height natural.1.0))
 
 -- a point that isn't negative, by its two lengths
 pub as_pair : (point : Point) (pair : ℕ × ℕ) → point ≡ as_point pair → (across down : ℕ) → across ≡ unsigned_abs point.left → down ≡ unsigned_abs point.top

@@ -31,7 +31,7 @@ pub inputs_found : (tree : Tree) (screen : Screen) (n document : ℕ) → (eleme
 unfolding inputs_of
 inputs_found tree screen n document owner = ap (λ d. inputs_in_view (nodes_of tree) (view_of tree screen d) n) owner
 
-none_is : (found : Option Inputs) → is_some found ≡ false → found ≡ None
+pub none_is : (found : Option Inputs) → is_some found ≡ false → found ≡ None
 none_is None none = refl
 none_is (Some inputs) none = cc
 

@@ -10,11 +10,11 @@ use Rattle.layout_model.proofs.Inputs.{is_some_inputs}
 use Rattle.page_boxes.proofs.Boxed.{found_in, found_is}
 
 -- a node with a box is in the tree of the root
-second_true : (first second : Bool) → (first && second) ≡ true → second ≡ true
+pub second_true : (first second : Bool) → (first && second) ≡ true → second ≡ true
 second_true true second e = e
 second_true false second e = cc
 
-or_true : (a b : Bool) → b ≡ true → (a || b) ≡ true
+pub or_true : (a b : Bool) → b ≡ true → (a || b) ≡ true
 or_true true b e = refl
 or_true false b e = e
 

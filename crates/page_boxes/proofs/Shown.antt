@@ -1,7 +1,6 @@
 -- Sizes, corners and places that are read of a world.
 use Rattle.std.proofs.Common.{◌≡◌, ℕ, zero, suc, ℤ, Bool, true, false, cond, Some, None, option_map, unwrap_or, refl, ap, sym, ◌∙◌, arith, min}
-use Rattle.std.proofs.lemmas.Int.{ints}
-use Rattle.std.specs.Prelude.{pos, negsuc, ◌≤ℤ◌, unsigned_abs, ⊤}
+use Rattle.std.specs.Prelude.{pos, negsuc, ⊤}
 use Rattle.px_units.specs.declared.BoxKind.{BoxKind}
 use Rattle.layout_model.specs.Nodes.{Node, holders_of, is_on_screen}
 use Rattle.layout_model.specs.Boxes.{Box, content_corner}
@@ -100,8 +99,3 @@ module _ (tree : Tree) (screen : Screen) (scrolls : Scrolls) (n : ℕ) where
   pub place_there : has_box tree screen n ≡ true → point_of (place_in (nodes_of tree) (stored_in scrolls) (scrolled_view tree screen scrolls ((element_at tree n).document)) n) ≡ place_of tree screen scrolls n
   unfolding place_of
   place_there there = sym (ap (place_if tree screen scrolls n) there)
-
--- a length that isn't negative
-pub same_length : (length : ℤ) → pos 0 ≤ℤ length → pos (unsigned_abs length) ≡ length
-same_length (pos n) low = refl
-same_length (negsuc n) low = absurd (omega (arith, ints))

@@ -3,10 +3,9 @@ use Rattle.std.proofs.Common.{◌≡◌, ℕ, true, false, List, Option, Some, N
 use Rattle.std.proofs.lemmas.Bool.{false≢true}
 use Rattle.std.specs.Prelude.{is_some}
 use Rattle.layout_model.specs.Styles.{Style}
-use Rattle.layout_model.specs.Items.{Kind, BlockKind, ImageKind, FrameKind}
+use Rattle.layout_model.specs.Items.{Kind}
 use Rattle.layout_model.specs.Nodes.{Node, IsLinked, IsShallow}
-use Rattle.layout_model.specs.Boxes.{Inputs, Box, box_in, inner_children}
-use Rattle.layout_model.specs.Clips.{is_block}
+use Rattle.layout_model.specs.Boxes.{Inputs, Box, box_in}
 use Rattle.layout_model.specs.Views.{inputs_in_view}
 use Rattle.page_model.specs.World.{Screen, Tree}
 use Rattle.page_model.specs.Documents.{nodes_of}
@@ -32,6 +31,7 @@ use Rattle.page_boxes.proofs.Owners.{owner_inside}
 use Rattle.page_boxes.proofs.Renewed.{inputs_found}
 use Rattle.page_boxes.proofs.Rooted.{rooted_in}
 use Rattle.page_boxes.proofs.Views.{view_root}
+use Rattle.kept_layout.proofs.Wanted.{block_kids}
 
 pub fills_none : (kept : List Slot) → FillsOnly kept kept
 fills_none kept = record { marks = λ n is. is; found = λ n is. is }
@@ -76,11 +76,6 @@ exact_here tree screen kept style kind {most} {nodes} forest same fits n inputs 
     ap (option_map (λ (found : Found). found.own)) settled.held
     ∙ ap Some (exact_settled at (shaped_tree style kind forest) (linked_tree style kind forest) (shallow_tree style kind forest) (slot_in kept) sound n inputs settled)
     ∙ ap (λ at. Some (box_in at inputs n)) (sym same)
-
-block_kids : (kind : Kind) (children : List ℕ) → is_block kind ≡ true → inner_children kind children ≡ children
-block_kids BlockKind children is = refl
-block_kids (ImageKind width height) children is = absurd (false≢true is)
-block_kids FrameKind children is = absurd (false≢true is)
 
 -- where none is due, all boxes are held as they are now
 module _ (tree : Tree) (framed : AreFramed tree) (screen : Screen) (kept : List Slot) (none : (n : ℕ) → is_due tree screen kept n ≡ false)

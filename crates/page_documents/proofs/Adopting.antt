@@ -11,19 +11,15 @@ use Rattle.element_tree.specs.Edits.{with_nodes, with_payload, change_at as chan
 use Rattle.page_documents.specs.Seen.{Carried, element_of, seen_tree}
 use Rattle.page_documents.specs.Adoption.{adopting, adopted_in}
 use Rattle.page_documents.proofs.Seen.{children_seen}
+use Rattle.element_tree.proofs.Nodes.{length-changed}
 
 pub change_append : {A : Type 0} (f : A → A) (xs ys : List ℕ) (held : List A) → change_each f (xs ++ ys) held ≡ change_each f ys (change_each f xs held)
 change_append f [] ys held = refl
 change_append f (x ∷ xs) ys held = change_append f xs ys (change_at f x held)
 
-pub change_length : {A : Type 0} (f : A → A) (place : ℕ) (held : List A) → length (change_at f place held) ≡ length held
-change_length f place [] = refl
-change_length f zero (x ∷ xs) = refl
-change_length f (suc place) (x ∷ xs) = ap suc (change_length f place xs)
-
 pub changes_length : {A : Type 0} (f : A → A) (places : List ℕ) (held : List A) → length (change_each f places held) ≡ length held
 changes_length f [] held = refl
-changes_length f (place ∷ places) held = changes_length f places (change_at f place held) ∙ change_length f place held
+changes_length f (place ∷ places) held = changes_length f places (change_at f place held) ∙ length-changed f place held
 
 -- trees with the same children have the same order
 flat_same : (f g : ℕ → List ℕ) → ((n : ℕ) → f n ≡ g n) → (xs : List ℕ) → flat_map f xs ≡ flat_map g xs
@@ -91,7 +87,7 @@ module _ {P : Type 0} (carried : P → Carried) (give : ℕ → P → P) (docume
         record {
           rest = becomes ∙ ap (λ nodes. let it : Forest P = record first { nodes = nodes } in it) (sym (ap (λ (it : Forest P). it.nodes) becomes));
           kids = λ n. ap (λ nodes. children_of nodes n) nodes ∙ child_kept first.nodes node n;
-          count = ap (λ nodes. length nodes) nodes ∙ change_length (adopting give document) node first.nodes;
+          count = ap (λ nodes. length nodes) nodes ∙ length-changed (adopting give document) node first.nodes;
           walk =
               ap (λ kids. change_each (adopting give document) (flat_map (order_down high (seen_tree carried first [])) kids) now.nodes) (whole
               ∙ sym (children_seen carried first [] node))

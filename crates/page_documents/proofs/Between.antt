@@ -11,7 +11,6 @@ use Rattle.element_tree.specs.Forest.{Forest, IsForest, has, names, children_of,
 use Rattle.page_documents.specs.Seen.{Carried, seen_tree}
 use Rattle.page_documents.specs.Frames.{MakeTrees, HaveOwners, AreFramed}
 use Rattle.page_documents.specs.Places.{IsThere, IsTakenOut, IsPutIn}
-use Rattle.page_documents.proofs.Adopting.{change_length}
 use Rattle.page_documents.proofs.Seen.{parent_seen, children_seen}
 use Rattle.page_documents.proofs.Roots.{shallow}
 use Rattle.page_documents.proofs.Lists.{its_number}
@@ -20,6 +19,7 @@ use Rattle.page_documents.proofs.Shape.{trees_same}
 use Rattle.page_documents.proofs.Leaving.{left_framed}
 use Rattle.page_documents.proofs.Linking.{Loose, linked_within, linked_onto}
 use Rattle.page_documents.proofs.Entering.{entered_framed}
+use Rattle.element_tree.proofs.Nodes.{length-changed}
 
 -- a tree of elements, seen as the definitions have it --------------------------------------------------------------------------
 
@@ -27,7 +27,7 @@ listed_has : (n : ℕ) (xs : List ℕ) → is_listed n xs ≡ has xs n
 listed_has n [] = refl
 listed_has n (x ∷ xs) = ap (λ b. b || is_listed n xs) (nat_eq_equiv.symm x n) ∙ ap (λ b. (n == x) || b) (listed_has n xs)
 
-number_names : (found : Option ℕ) (n : ℕ) → is_number found n ≡ names found n
+pub number_names : (found : Option ℕ) (n : ℕ) → is_number found n ≡ names found n
 number_names None n = refl
 number_names (Some m) n = nat_eq_equiv.symm m n
 
@@ -66,9 +66,9 @@ unadopted tree document n trees =
 
 linked_count : (tree : Tree) (container : Container) (n : ℕ) (sibling : Option ℕ) → length (linked tree container n sibling).elements ≡ length tree.elements
 linked_count tree (InElement q) n sibling =
-    change_length (λ (it : Element). record it { children = placed_before n sibling (it.children) }) q
+    length-changed (λ (it : Element). record it { children = placed_before n sibling (it.children) }) q
     (change_at (λ (it : Element). record it { parent = Some q }) n (tree.elements))
-    ∙ change_length (λ (it : Element). record it { parent = Some q }) n (tree.elements)
+    ∙ length-changed (λ (it : Element). record it { parent = Some q }) n (tree.elements)
 linked_count tree (InDocument document) n sibling = refl
 
 nowhere_loose : (tree : Tree) (n : ℕ) → HaveOwners tree → n < length tree.elements → container_of tree n ≡ None → Loose tree n

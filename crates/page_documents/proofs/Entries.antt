@@ -2,8 +2,8 @@
 use Rattle.std.proofs.Common.{◌≡◌, ◌≢◌, ◌<◌, ℕ, zero, suc, List, [], ◌∷◌, ◌++◌, length, Some, ◌⊎◌, inl, inr, refl, ap, sym, ◌∙◌, arith}
 use Rattle.std.specs.Prelude.{slice_get, option_map}
 use Rattle.page_model.specs.Lookups.{entry_or, change_at, change_each}
-use Rattle.page_documents.proofs.Adopting.{change_length}
 use Rattle.page_documents.proofs.Lists.{Among}
+use Rattle.element_tree.proofs.Nodes.{length-changed}
 
 module _ {A : Type 0} (default : A) where
   -- an entry that is told from what stands for none is there
@@ -62,7 +62,7 @@ module _ {A : Type 0} (default : A) where
       set_each (place ∷ places) m xs (inl here) inside =
           stays places m (change_at f place xs)
           (ap (λ n. part (entry_or default (change_at f place xs) n)) (sym here) ∙ ap part (changed place xs (rw here inside)) ∙ sets (entry_or default xs place))
-      set_each (place ∷ places) m xs (inr there) inside = set_each places m (change_at f place xs) there (rw (change_length f place xs) inside)
+      set_each (place ∷ places) m xs (inr there) inside = set_each places m (change_at f place xs) there (rw (length-changed f place xs) inside)
 
 -- what is looked up at a place, after a change that leaves it
 module _ {A B : Type 0} (f : A → A) (part : A → B) (same : (x : A) → part (f x) ≡ part x) where

@@ -15,7 +15,7 @@ taken_append : {S : Type 0} (with : ℕ → S → S) (xs ys : List ℕ) (s : S) 
 taken_append with [] ys s = refl
 taken_append with (x ∷ xs) ys s = taken_append with xs ys (with x s)
 
-filter_append : {A : Type 0} (p : A → Bool) (xs ys : List A) → filter p (xs ++ ys) ≡ filter p xs ++ filter p ys
+pub filter_append : {A : Type 0} (p : A → Bool) (xs ys : List A) → filter p (xs ++ ys) ≡ filter p xs ++ filter p ys
 filter_append p [] ys = refl
 filter_append p (x ∷ xs) ys = elim (p x) as (λ b. cond b (x ∷ filter p (xs ++ ys)) (filter p (xs ++ ys))
     ≡ cond b (x ∷ filter p xs) (filter p xs) ++ filter p ys) [

@@ -6,8 +6,8 @@ use Rattle.page_model.specs.Lookups.{element_at, document_at, no_element, no_doc
 use Rattle.page_model.specs.Documents.{is_number, placed_before, linked}
 use Rattle.page_documents.specs.Frames.{MakeTrees}
 use Rattle.page_documents.proofs.Lists.{itself_placed, listed_placed, its_number, no_number, not_some}
-use Rattle.page_documents.proofs.Adopting.{change_length}
 use Rattle.page_documents.proofs.Entries.{changed, unchanged, either, kept}
+use Rattle.element_tree.proofs.Nodes.{length-changed}
 
 -- an element that stands nowhere
 pub record Loose (tree : Tree) (n : ℕ) : Type 0 where
@@ -70,7 +70,7 @@ module _ (tree : Tree) (n : ℕ) (loose : Loose tree n) (trees : MakeTrees tree)
     itself p = elim (cases_eq p q) [
       | inl same ↦
           ap (λ k. is_listed n (element_at within k).children) same
-          ∙ ap (λ (it : Element). is_listed n it.children) (changed no_element takes q first (rw (change_length gains n (tree.elements)) there))
+          ∙ ap (λ (it : Element). is_listed n it.children) (changed no_element takes q first (rw (length-changed gains n (tree.elements)) there))
           ∙ itself_placed n sibling _
           ∙ sym (its_number (Some q) p (ap Some (sym same)))
       | inr other ↦
@@ -94,7 +94,7 @@ module _ (tree : Tree) (n : ℕ) (loose : Loose tree n) (trees : MakeTrees tree)
       parents = within_parents;
       documents = within_same (λ (it : Element). it.document) (λ it. refl) (λ it. refl);
       framed = within_same (λ (it : Element). it.framed) (λ it. refl) (λ it. refl);
-      elements = change_length takes q first ∙ change_length gains n (tree.elements);
+      elements = length-changed takes q first ∙ length-changed gains n (tree.elements);
       owned = λ p up. ap (λ k. (element_at tree k).document) (let both : Some p ≡ Some q = sym up ∙ within_up in let same : p ≡ q = cc in same);
       frames = λ d. refl;
       states = λ d. refl;
@@ -138,5 +138,5 @@ module _ (tree : Tree) (n : ℕ) (loose : Loose tree n) (trees : MakeTrees tree)
       states = λ d. kept no_document crowned (λ (it : Document). it.state) (λ it. refl) own d (tree.documents);
       roots = onto_roots;
       rooted = onto_rooted;
-      count = change_length crowned own (tree.documents);
+      count = length-changed crowned own (tree.documents);
     }

@@ -13,13 +13,13 @@ use Rattle.page_documents.specs.Paths.{holder_of, way_down}
 use Rattle.page_documents.specs.Frames.{MakeTrees, HaveOwners, AreFramed}
 use Rattle.page_documents.proofs.Climbing.{path_whole}
 use Rattle.page_documents.proofs.Lists.{listed, not_some}
-use Rattle.page_documents.proofs.Adopting.{change_length}
 use Rattle.page_documents.proofs.Entries.{known, kept, append_before, append_cases, append_new, append_part, append_length}
 use Rattle.page_documents.proofs.Shape.{among_children, trees_same, depth_top}
 use Rattle.page_documents.proofs.Standing.{Standing, stands, document_same}
 use Rattle.page_documents.proofs.Ways.{way_none, reach_more, ways_kept}
 use Rattle.page_documents.proofs.Framed.{frame_known, active_known, framed_known, unframed_held, framed_held, unheld, frame_stands, holder_active, reaches}
 use Rattle.page_documents.proofs.Removing.{top_same}
+use Rattle.element_tree.proofs.Nodes.{length-changed}
 
 -- a tree to which elements and documents are added that stand nowhere, aren't Active and are in no tree
 pub record Grown (before after : Tree) : Type 0 where
@@ -126,7 +126,7 @@ item_framed tree change n framed = grown_framed tree (change_item change n tree)
   framed_by = λ d inside. refl;
   roots = λ d. refl;
   active = λ d. refl;
-  elements = let it : length (change_item change n tree).elements ≡ length tree.elements = change_length _ n (tree.elements) in omega arith;
+  elements = let it : length (change_item change n tree).elements ≡ length tree.elements = length-changed _ n (tree.elements) in omega arith;
   count = omega arith;
   few = framed.few;
 })

@@ -7,8 +7,8 @@ use Rattle.page_model.specs.Lookups.{element_at, document_at, no_element, no_doc
 use Rattle.page_model.specs.Documents.{is_number, is_root_element, container_by, container_of, unlinked}
 use Rattle.page_documents.specs.Frames.{MakeTrees, HaveOwners}
 use Rattle.page_documents.proofs.Lists.{listed_without, itself_without, number_is, its_number, no_number, not_some}
-use Rattle.page_documents.proofs.Adopting.{change_length}
 use Rattle.page_documents.proofs.Entries.{known, changed, unchanged, either, kept, found_kept}
+use Rattle.element_tree.proofs.Nodes.{length-changed}
 
 -- an element is taken out of where it stands: what is the same of all else
 pub record Apart (before after : Tree) (n : ℕ) : Type 0 where
@@ -106,7 +106,7 @@ module _ (tree : Tree) (n : ℕ) (trees : MakeTrees tree) (owners : HaveOwners t
       children = out_children;
       documents = out_same (λ (it : Element). it.document) (λ it. refl) (λ it. refl);
       framed = out_same (λ (it : Element). it.framed) (λ it. refl) (λ it. refl);
-      elements = change_length (bereft n) q first ∙ change_length alone n (tree.elements);
+      elements = length-changed (bereft n) q first ∙ length-changed alone n (tree.elements);
       found = λ m. found_kept (bereft n) (λ (it : Element). it.document) (λ it. refl) q m first
           ∙ found_kept alone (λ (it : Element). it.document) (λ it. refl) n m (tree.elements);
       frames = λ d. refl;
@@ -177,7 +177,7 @@ module _ (tree : Tree) (n : ℕ) (trees : MakeTrees tree) (owners : HaveOwners t
         frames = λ d. kept no_document unrooted (λ (it : Document). it.frame) (λ it. refl) own d (tree.documents);
         roots = freed_roots;
         rooted = freed_rooted;
-        count = change_length unrooted own (tree.documents);
+        count = length-changed unrooted own (tree.documents);
       }
 
   by_root : (up : (element_at tree n).parent ≡ None) (test : Bool) → is_root_element tree n ≡ test →

@@ -18,6 +18,8 @@ use Rattle.page_documents.proofs.Shape.{from_parents, itself_below, child_below}
 use Rattle.page_documents.proofs.Standing.{document_top, document_below}
 use Rattle.page_boxes.proofs.Boxed.{boxed_below, boxed_top}
 use Rattle.page_boxes.proofs.Views.{view_idle, view_whole, view_root, view_is}
+use Rattle.page_boxes.proofs.Rooted.{second_true}
+use Rattle.page_boxes.proofs.Renewed.{none_is}
 
 none_in : (tree : Tree) (n : ℕ) → is_some (inputs_in_view (nodes_of tree) no_view n) ≡ false
 unfolding inputs_in_view
@@ -27,14 +29,6 @@ pub last_true : (a b c : Bool) → (a && b && c) ≡ true → c ≡ true
 last_true true true c is = is
 last_true true false c is = cc
 last_true false b c is = cc
-
-pub both_true : (a b : Bool) → (a && b) ≡ true → b ≡ true
-both_true true b is = is
-both_true false b is = cc
-
-none_found : (found : Option Inputs) → is_some found ≡ false → found ≡ None
-none_found None is = refl
-none_found (Some inputs) is = cc
 
 module _ (tree : Tree) (screen : Screen) where
   pub boxed_in : (n : ℕ) → has_box tree screen n ≡ is_some (inputs_in_view (nodes_of tree) (view_of tree screen (element_at tree n).document) n)
@@ -67,7 +61,7 @@ module _ (tree : Tree) (screen : Screen) where
           its_number (document_at tree (element_at tree n).document).root n
           (view_root tree screen (element_at tree n).document n
           (number_is (view_of tree screen (element_at tree n).document).root n
-          (both_true (not (nodes_of tree n).item.style.hidden) _
+          (second_true (not (nodes_of tree n).item.style.hidden) _
           (sym (boxed_top (nodes_of tree) (view_of tree screen (element_at tree n).document) n is) ∙ sym (boxed_in n) ∙ boxed))))
 
       pub frame_boxed : (frame : ℕ) → (document_at tree (element_at tree n).document).frame ≡ Some frame → has_box tree screen frame ≡ true
@@ -79,7 +73,7 @@ module _ (tree : Tree) (screen : Screen) where
               (view_is tree framed screen (element_at tree n).document active
               ∙ ap (λ f. view_with (document_at tree (element_at tree n).document).root (framed_size tree screen (view_of tree screen) f)) is
               ∙ ap (λ (found : Option Inputs). view_with (document_at tree (element_at tree n).document).root (option_map (λ inputs. content_size (box_in (nodes_of tree) inputs frame)) found))
-              (none_found (inputs_in_view (nodes_of tree) (view_of tree screen (element_at tree frame).document) frame) (sym (boxed_in frame) ∙ none))))
+              (none_is (inputs_in_view (nodes_of tree) (view_of tree screen (element_at tree frame).document) frame) (sym (boxed_in frame) ∙ none))))
 
   module _ (framed : AreFramed tree) where
     -- what has a box stands in the tree of its node document

@@ -22,6 +22,7 @@ use Rattle.page_tree.specs.Faults.{has_document_room, IsMakeFault, IsFrameFault}
 use Rattle.page_tree.specs.declared.faults.MakeFault.{MakeFault}
 use Rattle.page_tree.specs.declared.faults.MakeFault.TheVariants.{Limit, Memory}
 use Rattle.page_boxes.specs.Kept.{AreKept}
+use Rattle.page_boxes.proofs.Rooted.{second_true}
 
 or_none : (b : Bool) → (b || false) ≡ false → b ≡ false
 or_none false none = refl
@@ -69,14 +70,8 @@ module _ (old new : PageElements) (kept : List Slot) (was : AreKept old.tree kep
       kept_next room (ap (λ (page : PageElements). (nodes_of page.tree (length old.tree.elements)).children) is ∙ alone) longer changes
   kept_made made names room alone (Err e) is longer changes same = subst (λ (page : PageElements). AreKept page.tree kept) (sym same) was
 
--- where there is room for one more element
-both : (a b : Bool) → (a && b) ≡ true → b ≡ true
-both true true is = refl
-both true false is = is
-both false b is = absurd (false≢true is)
-
 pub room_is : (page : PageElements) (kept : List Slot) → (page.ready && nat_lt (length page.tree.elements) (length kept)) ≡ true → length page.tree.elements < length kept
-room_is page kept ready = let low = both (page.ready) (nat_lt (length page.tree.elements) (length kept)) ready in grind (arith, nat_tests)
+room_is page kept ready = let low = second_true (page.ready) (nat_lt (length page.tree.elements) (length kept)) ready in grind (arith, nat_tests)
 
 -- an element that isn't made, as a frame, where there is room for its document
 module _ (page : PageElements) (other : Bool) (tells : other ≡ not (has_document_room page)) (is : other ≡ false) where

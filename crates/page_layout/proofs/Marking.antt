@@ -13,7 +13,7 @@ use Rattle.kept_layout.specs.Slots.{slot_in, marked_if}
 use Rattle.kept_layout.specs.Sound.{IsSoundBut}
 use Rattle.kept_layout.specs.Changes.{ChangesOnly}
 use Rattle.kept_layout.proofs.Climbs.{marks_all}
-use Rattle.kept_layout.proofs.Steady.{changed_elsewhere, more_fits}
+use Rattle.kept_layout.proofs.Steady.{changed_elsewhere, more_fits, found_marked}
 use Rattle.page_tree.specs.Changes.{is_parent, is_container, ChangesAtParents, ChangesAtParent, ChangesAtElement}
 use Rattle.page_boxes.specs.Kept.{AreKept}
 use Rattle.page_layout.specs.Marks.{is_over, element_of, MarksOnly, AreKeptBut, Mends}
@@ -101,11 +101,6 @@ module _ (old new : Tree) (n : ℕ) (kept : List Slot) (was : AreKept old kept) 
   kept_written changes same last mends =
       kept_marked old new kept (λ m. nat_eq m n || is_parent old n m) was changes count (Some n) (λ m is. over_element old new n m same is) last mends
 
--- what a mark of `kept_layout` comes to on the page
-found_if : (b : Bool) (slot : Slot) → (marked_if b slot).found ≡ slot.found
-found_if true slot = refl
-found_if false slot = refl
-
 module _ (tree : Tree) (trees : MakeTrees tree) (old new : List Slot) (n : ℕ) (made : n < length tree.elements) (slots : length tree.elements ≤ length old)
     (at : ℕ → Node) (is : nodes_of tree ≡ at) (same : length new ≡ length old)
     (marks : (m : ℕ) → m < length old → slot_in new m ≡ marked_if (is_in_path at m n) (slot_in old m)) where
@@ -125,5 +120,5 @@ module _ (tree : Tree) (trees : MakeTrees tree) (old new : List Slot) (n : ℕ) 
     sound =
         subst (λ f. IsSoundBut f (slot_in new) others) (sym is)
         (mended within others (subst (λ f. IsSoundBut f (slot_in old) (λ k. is_in_path f k n || others k)) is was.sound));
-    unmade = λ m far. ap (λ (slot : Slot). slot.found) (marks_over m) ∙ found_if (is_in_path (nodes_of tree) m n) (slot_in old m) ∙ was.unmade m far;
+    unmade = λ m far. ap (λ (slot : Slot). slot.found) (marks_over m) ∙ found_marked (is_in_path (nodes_of tree) m n) (slot_in old m) ∙ was.unmade m far;
   }

@@ -1,5 +1,5 @@
 -- What a page keeps of registrations, through its commands.
-use Rattle.std.proofs.Common.{◌≡◌, ◌∙◌, ℕ, zero, suc, ◌<◌, Bool, true, false, cond, ◌==◌, List, [], ◌∷◌, Option, Some, None, Ok, option_map, is_some, find, length, ap, refl, sym, subst, arith, tests}
+use Rattle.std.proofs.Common.{◌≡◌, ◌∙◌, ℕ, ◌<◌, Bool, true, false, cond, ◌==◌, List, [], ◌∷◌, Option, Some, None, Ok, option_map, is_some, find, length, ap, refl, sym, subst, arith, tests}
 use Rattle.std.specs.List.{All}
 use Rattle.std.specs.Option.{IsSome}
 use Rattle.std.specs.Ordering.{nat_cmp}
@@ -9,7 +9,7 @@ use Rattle.std.proofs.lemmas.Bool.{false≢true}
 use Rattle.std.proofs.lemmas.List.Elements.{All-head, All-tail}
 use Rattle.script_model.specs.Margins.{Margins}
 use Rattle.page_model.specs.World.{Root, Registration, IntersectionObserver, IntersectionObservers}
-use Rattle.page_model.specs.Lookups.{entry_or, change_at, no_intersection_observer, intersection_observer_at}
+use Rattle.page_model.specs.Lookups.{no_intersection_observer, intersection_observer_at}
 use Rattle.page_model.specs.IntersectionObserving.{is_registered, with_registration, without_registration}
 use Rattle.element_tree.specs.declared.container.Container.{Container}
 use Rattle.clip_chain.specs.Worlds.{element_spot, spot_of_root}
@@ -32,6 +32,8 @@ use Rattle.kept_findings.proofs.Observed.{registered_observed, registered_unobse
 use Rattle.kept_findings.proofs.Registering.{undone, put_own}
 use Rattle.kept_findings.proofs.Settled.{apart_test, kept_other}
 use Rattle.page_state.specs.Findings.{KeepsFindings}
+use Rattle.intersection_observer.proofs.Counts.{some_from}
+use Rattle.intersection_update.proofs.Lists.{unchanged}
 
 -- where nothing is changed, or there is room for more alone
 
@@ -107,10 +109,6 @@ none_mapped : {A B : Type 0} (f : A → B) (o : Option A) → option_map f o ≡
 none_mapped f None none = refl
 none_mapped f (Some x) none = absurd (false≢true (sym (ap (λ (o : Option _). is_some o) none)))
 
-some_mapped : {A B : Type 0} (f : A → B) (o : Option A) (y : B) → option_map f o ≡ Some y → is_some o ≡ true
-some_mapped f None y some = ap (λ (o : Option _). is_some o) some
-some_mapped f (Some x) y some = refl
-
 module _ (watchers : IntersectionObservers) (margins : List Margins) (it : HeldFindings) (serial : ℕ) (registered : AreRegistered watchers margins it) (none : standing_of serial watchers ≡ None) where
   pub no_pair : pair_at it.clips serial ≡ None
   no_pair = none_mapped spots_in (pair_at it.clips serial) (registered.held.pairs serial ∙ ap (λ (place : Option Place). option_map (spots_of watchers) place) none)
@@ -147,15 +145,10 @@ module _ (watchers : HeldWatchers) (margins : List Margins) (w n serial : ℕ) (
 
 -- a registration that is taken out
 
-unchanged_at : {A : Type 0} (default : A) (change : A → A) (place : ℕ) (xs : List A) → change (entry_or default xs place) ≡ entry_or default xs place → change_at change place xs ≡ xs
-unchanged_at default change place [] same = refl
-unchanged_at default change zero (x ∷ xs) same = ap (λ y. y ∷ xs) same
-unchanged_at default change (suc place) (x ∷ xs) same = ap (λ others. x ∷ others) (unchanged_at default change place xs same)
-
 pub none_without : (it : IntersectionObservers) (w n : ℕ) → serial_of n (registrations_at it w) ≡ None → without_registration w n it ≡ it
 none_without it w n none =
     ap (λ (made : List IntersectionObserver). record it { made = made })
-    (unchanged_at no_intersection_observer (λ (each : IntersectionObserver). record each { registrations = without_target n (each.registrations) }) w (it.made)
+    (unchanged no_intersection_observer (λ (each : IntersectionObserver). record each { registrations = without_target n (each.registrations) }) w (it.made)
     (ap (λ (these : List Registration). record (intersection_observer_at it w) { registrations = these }) (serial-none-without n (registrations_at it w) none)))
 
 stands_by : (it : IntersectionObservers) (w n number : ℕ) (these : List Registration) → All (IsFound it w) these → serial_of n these ≡ Some number → is_some (standing_of number it) ≡ true
@@ -181,7 +174,7 @@ module _ (before : IntersectionObservers) (margins : List Margins) (w n : ℕ) (
       where
         some_there : (place : Option Place) → is_some place ≡ true → option_map spots_in (pair_at it.clips number) ≡ option_map (spots_of before) place → is_some (pair_at it.clips number) ≡ true
         some_there None some same = absurd (false≢true some)
-        some_there (Some place) some same = some_mapped spots_in (pair_at it.clips number) (spots_of before place) same
+        some_there (Some place) some same = some_from spots_in (pair_at it.clips number) (spots_of before place) same
 
     pub forgotten : AreRegistered after margins (without_findings number it)
     forgotten = registered_unobserved before margins w n number it serials there found registered

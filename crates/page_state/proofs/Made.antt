@@ -19,6 +19,7 @@ use Rattle.page_state.specs.Boxes.{LeavesDue}
 use Rattle.page_state.specs.Views.{PageView}
 use Rattle.page_state.specs.Worlds.{view_of}
 use Rattle.page_state.specs.declared.page.Page.TheInside.{Inside}
+use Rattle.page_boxes.proofs.Rooted.{or_true}
 
 -- what is named in a page was made ------------------------------------------------------------------------------------------------------
 
@@ -34,14 +35,10 @@ some_if P (Some x) each = each x refl
 same_number : (n : ℕ) → (n == n) ≡ true
 same_number n = grind (arith, tests)
 
-or_right : (a b : Bool) → b ≡ true → (a || b) ≡ true
-or_right true b is = refl
-or_right false b is = is
-
 all_listed : (P : ℕ → Type 0) (xs : List ℕ) → ((c : ℕ) → is_listed c xs ≡ true → P c) → AllByRecursion P xs
 all_listed P [] each = tt
 all_listed P (x ∷ xs) each =
-    (each x (ap (λ (it : Bool). it || is_listed x xs) (same_number x)), all_listed P xs (λ c is. each c (or_right (x == c) (is_listed c xs) is)))
+    (each x (ap (λ (it : Bool). it || is_listed x xs) (same_number x)), all_listed P xs (λ c is. each c (or_true (x == c) (is_listed c xs) is)))
 
 pub framed_made : (tree : Tree) → AreFramed tree → NamesMade tree
 framed_made tree framed = record {

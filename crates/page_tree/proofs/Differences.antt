@@ -15,7 +15,8 @@ use Rattle.page_documents.proofs.Entries.{unchanged, append_cases}
 use Rattle.page_tree.specs.Items.{Described, carried_in}
 use Rattle.page_tree.specs.Changes.{is_parent, ChangesAtNext, ChangesAtElement}
 use Rattle.page_tree.proofs.Making.{last_seen}
-use Rattle.page_tree.proofs.Moves.{differs, neither, kid_differs}
+use Rattle.page_tree.proofs.Moves.{differs, kid_differs}
+use Rattle.kept_layout.proofs.Counts.{neither}
 
 -- where one element alone differs by itself
 module _ (old new : Tree) (n : ℕ) (framed : AreFramed old) (others : (m : ℕ) → m ≢ n → element_at new m ≡ element_at old m) where

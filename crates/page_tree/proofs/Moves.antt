@@ -4,47 +4,36 @@ use Rattle.std.specs.Prelude.{is_some}
 use Rattle.std.specs.Cmp.{nat_eq_equiv}
 use Rattle.std.proofs.lemmas.Bool.{false≢true, eq-eqb}
 use Rattle.layout_model.specs.Styles.{StaticPosition}
-use Rattle.layout_model.specs.Items.{Item, Kind, BlockKind, ImageKind, FrameKind}
+use Rattle.layout_model.specs.Items.{Item}
 use Rattle.layout_model.specs.Nodes.{is_flow}
-use Rattle.layout_model.specs.Boxes.{inner_children, kids_of}
+use Rattle.layout_model.specs.Boxes.{kids_of}
 use Rattle.element_tree.specs.Forest.{has, names}
 use Rattle.kept_layout.specs.Changes.{ChangesOnly}
 use Rattle.page_model.specs.World.{Element, Tree, Container, InElement, InDocument}
 use Rattle.page_model.specs.Lookups.{element_at, no_element, is_listed, without, change_element, change_at}
-use Rattle.page_model.specs.Documents.{nodes_of, is_number, is_root_element, container_by, container_of, unlinked, removed, placed_before, sibling_meant, linked, document_of_container, inclusive_descendants, adopted, shown, inserted}
+use Rattle.page_model.specs.Documents.{nodes_of, is_root_element, container_by, container_of, unlinked, removed, placed_before, sibling_meant, linked, document_of_container, inclusive_descendants, adopted, shown, inserted}
 use Rattle.page_model.specs.Steps.{Did}
 use Rattle.page_model.specs.Commands.{placing}
 use Rattle.page_documents.specs.Frames.{MakeTrees}
 use Rattle.page_documents.proofs.Entries.{unchanged, kept, kept_each}
 use Rattle.page_tree.specs.Changes.{is_parent, is_container, ChangesAtParents, ChangesAtParent}
 use Rattle.page_tree.proofs.Placing.{judged, placing_judged}
+use Rattle.kept_layout.proofs.Counts.{neither}
+use Rattle.kept_layout.proofs.Shapes.{kid_in}
+use Rattle.page_documents.proofs.Between.{number_names}
 
 pub differs : (m n : ℕ) → nat_eq m n ≡ false → m ≢ n
 differs m n other same = false≢true (sym other ∙ eq-eqb m n same)
-
-pub neither : (a b : Bool) → (a || b) ≡ false → (a ≡ false) × (b ≡ false)
-neither true b is = cc
-neither false b is = (refl, is)
-
--- a child that counts is listed
-kid_listed : (kind : Kind) (children : List ℕ) (c : ℕ) → has (inner_children kind children) c ≡ true → has children c ≡ true
-kid_listed BlockKind children c is = is
-kid_listed (ImageKind width height) children c is = cc
-kid_listed FrameKind children c is = cc
 
 has_listed : (n : ℕ) (xs : List ℕ) → has xs n ≡ is_listed n xs
 has_listed n [] = refl
 has_listed n (x ∷ xs) = ap (λ b. b || has xs n) (nat_eq_equiv.symm n x) ∙ ap (λ b. nat_eq x n || b) (has_listed n xs)
 
-number_names : (found : Option ℕ) (n : ℕ) → is_number found n ≡ names found n
-number_names None n = refl
-number_names (Some m) n = nat_eq_equiv.symm m n
-
 module _ (tree : Tree) (trees : MakeTrees tree) where
   pub kid_parent : (m c : ℕ) → has (kids_of (nodes_of tree m)) c ≡ true → is_parent tree c m ≡ true
   kid_parent m c kid =
       sym (number_names ((element_at tree c).parent) m) ∙ sym (trees.children m c) ∙ sym (has_listed c ((element_at tree m).children))
-      ∙ kid_listed ((element_at tree m).item.kind) ((element_at tree m).children) c kid
+      ∙ kid_in ((element_at tree m).item.kind) ((element_at tree m).children) c kid
 
   -- what isn't the parent of an element has another child
   pub kid_differs : (n m c : ℕ) → is_parent tree n m ≡ false → has (kids_of (nodes_of tree m)) c ≡ true → c ≢ n

@@ -5,11 +5,11 @@ use Rattle.page_model.specs.Lookups.{element_at, without, change_at}
 use Rattle.page_model.specs.Documents.{container_by, container_of, is_root_element, unlinked, removed, placed_before, linked, sibling_meant, with_state, stands_in_active, documents_inside, is_active_state, is_fresh_state, adopted, shown, inserted}
 use Rattle.element_tree.specs.Forest.{Knot, Forest, IsForest, IsOnce, parent_of, children_in}
 use Rattle.element_tree.specs.Edits.{with_parent, with_children, put_before, without as taken_out, removed_from, removed as taken_away, attached, inserted as put_in, change_at as changed_at}
-use Rattle.element_tree.proofs.Nodes.{children-reparented}
+use Rattle.element_tree.proofs.Nodes.{children-reparented, length-changed}
 use Rattle.page_documents.specs.Seen.{element_of, seen_tree}
 use Rattle.page_documents.proofs.Seen.{parent_seen}
 use Rattle.page_documents.specs.Held.{HeldDocuments, ending, changing}
-use Rattle.page_documents.proofs.Adopting.{change_length, changes_length}
+use Rattle.page_documents.proofs.Adopting.{changes_length}
 use Rattle.page_documents.proofs.Parts.{ends, unrooted, removed_by_parts}
 use Rattle.page_tree.specs.Items.{Described, carried_in}
 use Rattle.page_tree.proofs.Changes.{change_shown, changes_commute}
@@ -146,7 +146,7 @@ removed_count tree n =
     unrooted_count : (container : Option Container) (documents : List Document) → length (unrooted container documents) ≡ length documents
     unrooted_count None documents = refl
     unrooted_count (Some (InElement parent)) documents = refl
-    unrooted_count (Some (InDocument document)) documents = change_length (λ (it : Document). record it { root = None }) document documents
+    unrooted_count (Some (InDocument document)) documents = length-changed (λ (it : Document). record it { root = None }) document documents
 
 pub shown_count : (tree : Tree) (n : ℕ) → length (shown tree n).documents ≡ length tree.documents
 unfolding shown

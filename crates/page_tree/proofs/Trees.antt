@@ -12,15 +12,12 @@ use Rattle.page_documents.proofs.Seen.{parent_seen, children_seen}
 use Rattle.page_tree.specs.Items.{Described, carried_in}
 use Rattle.page_tree.specs.Trees.{AreTrees}
 use Rattle.page_tree.proofs.Paths.{depth_same}
+use Rattle.block_layout.proofs.Forests.{contains_has}
 
 listed_at : (xs : List ℕ) (i d : ℕ) → i < length xs → has xs (get_or xs i d) ≡ true
 listed_at [] i d h = absurd (omega arith)
 listed_at (x ∷ xs) zero d h = grind (arith, nat_tests)
 listed_at (x ∷ xs) (suc i) d h = grind (arith, nat_tests, listed_at xs i d (omega arith))
-
--- what is in a list is listed
-listed : (xs : List ℕ) (c : ℕ) → Contains xs c → has xs c ≡ true
-listed xs c at = subst (λ x. has xs x ≡ true) at.2 (listed_at xs at.0 c at.1)
 
 -- numbers that are listed once are apart
 apart : (xs : List ℕ) → IsOnce xs → (i j d : ℕ) → i < j → j < length xs → get_or xs i d ≢ get_or xs j d
@@ -39,7 +36,7 @@ module _ {most : ℕ} (forest : Forest Described) (trees : IsForest most forest.
   linked : IsLinked at
   linked p c held =
       parent_seen carried_in forest documents c
-      ∙ kid_parent trees p c (listed (children_of forest.nodes p) c (subst (λ xs. Contains xs c) (children_seen carried_in forest documents p) held))
+      ∙ kid_parent trees p c (contains_has (children_of forest.nodes p) c (subst (λ xs. Contains xs c) (children_seen carried_in forest documents p) held))
 
   shallow : IsShallow at
   shallow n = subst (λ depth. depth ≤ 65536) (sym (depth_same trees at (parent_seen carried_in forest documents) n)) (low_enough trees n)

@@ -51,7 +51,7 @@ runs_joined column t (u ∷ us) word words =
     word_spaced column t (join_with_byte 32 (u ∷ us)) word
     ∙ ap (λ (ws : List Word). record { column = column; text = t } ∷ ws) (runs_joined (column + length t + 1) u us words.0 words.1)
 
-sharp_first : (text : List ℕ) → IsWord text → begins_with 35 text ≡ false
+pub sharp_first : (text : List ℕ) → IsWord text → begins_with 35 text ≡ false
 unfolding begins_with
 sharp_first text word = ap (begins_with 35) word.text_is ∙ word.no_comment
 

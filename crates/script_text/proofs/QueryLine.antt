@@ -28,7 +28,7 @@ use Rattle.script_text.proofs.WordsAgain.{name_again}
 use Rattle.script_text.proofs.PartsAgain.{row, word_read, stands}
 use Rattle.script_text.proofs.StatementsAgain.{IsKnown, action_behind}
 use Rattle.script_model.proofs.Runs.{skips, joins}
-use Rattle.script_text.proofs.LineWords.{word_spaced, comment_behind, IsLine, spaced_on, line_of, States}
+use Rattle.script_text.proofs.LineWords.{word_spaced, comment_behind, IsLine, spaced_on, line_of, States, sharp_first}
 use Rattle.script_text.proofs.QueryBytes.{Clean, list_clean}
 
 -- the first of the words that begin at this column
@@ -145,10 +145,6 @@ abbrev words_with : List ℕ → List ℕ → List Word → List Word
 words_with name document rest =
     record { column = 1; text = codes "media" } ∷ record { column = 7; text = name } ∷ record { column = 7 + length name + 1; text = document } ∷ rest
 
-sharp : (text : List ℕ) → IsWord text → begins_with 35 text ≡ false
-unfolding begins_with
-sharp text word = ap (begins_with 35) word.text_is ∙ word.no_comment
-
 line_words : (name document queries : List ℕ) → IsWord name → IsWord document → Clean queries
     → words_of (query_text name document queries) ≡ words_with name document (runs_from (start name document) queries)
 unfolding words_of
@@ -161,9 +157,9 @@ line_words name document queries named documented clean =
     ∙ ap (λ (ws : List Word). record { column = 1; text = codes "media" } ∷ record { column = 7; text = name } ∷ ws) (word_spaced second document queries documented))
     ∙ comment_behind (record { column = 1; text = codes "media" }) (record { column = 7; text = name } ∷ record { column = second; text = document } ∷ rest) refl
     ∙ ap (λ (ws : List Word). record { column = 1; text = codes "media" } ∷ ws)
-    (comment_behind (record { column = 7; text = name }) (record { column = second; text = document } ∷ rest) (sharp name named)
+    (comment_behind (record { column = 7; text = name }) (record { column = second; text = document } ∷ rest) (sharp_first name named)
     ∙ ap (λ (ws : List Word). record { column = 7; text = name } ∷ ws)
-    (comment_behind (record { column = second; text = document }) rest (sharp document documented)
+    (comment_behind (record { column = second; text = document }) rest (sharp_first document documented)
     ∙ ap (λ (ws : List Word). record { column = second; text = document } ∷ ws) (quiet_words rest (runs_quiet (start name document) queries clean.quiet))))
 
 quiet_on : (b : ℕ) → is_quiet b ≡ true → is_line_byte b ≡ true

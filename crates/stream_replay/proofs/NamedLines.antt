@@ -13,7 +13,7 @@ use Rattle.trace_text.specs.Ranges.{IsLine}
 use Rattle.trace_runs.specs.declared.faults.RunFault.{RunFault}
 use Rattle.trace_runs.specs.declared.faults.RunFault.TheVariants as fault
 use Rattle.trace_runs.specs.Writes.{AppendsPart, FailsWithin, Wrote}
-use Rattle.trace_runs.proofs.Writes.{both, nothing, part_begins, part_behind, failure_begins, failure_behind}
+use Rattle.trace_runs.proofs.Writes.{both, part_begins, part_behind, failure_begins, failure_behind}
 use Rattle.trace_summary.specs.Lines.{first_line, behind_line}
 use Rattle.trace_summary.specs.Counts.{IsTrace}
 use Rattle.trace_summary.proofs.Rows.{Writing}
@@ -42,9 +42,6 @@ stopped (Ok done) it before after f g text is wrote = absurd (cc)
 stopped (Err e) it before after f g text is wrote = subst (λ (e : RunFault). Wrote {A = Unit {0}} (Err e) before after f g text) (sym is.1) wrote
 
 -- ---- while they are written
-
-pub named_begun : (now : Option (List ℕ)) (f : ℕ) (whole : List ℕ) → Writing now now f f whole whole
-named_begun now f whole = record { part = []; makes = refl; written = nothing now; unfailed = refl }
 
 pub named_more : {before mid after : Option (List ℕ)} {f fm g : ℕ} {whole line behind : List ℕ} (name rest : List ℕ) → Writing before mid f fm whole (named_lines name rest) → 0 < length rest
     → line ≡ first_line rest → behind ≡ behind_line rest → Appends mid after (name ++ (32 ∷ line)) → g ≡ fm → Writing before after f g whole (named_lines name behind)

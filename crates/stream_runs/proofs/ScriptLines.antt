@@ -10,14 +10,16 @@ use Rattle.script_text.specs.NumberedLines.{NumberedLine, numbered, end_line, co
 use Rattle.script_text.specs.Phrases.{action_words, action_head, action_parts, condition_words}
 use Rattle.script_text.specs.Parts.{all_words}
 use Rattle.script_text.specs.ScriptText.{line_text}
-use Rattle.script_text.specs.LineOfText.{first_line, behind_feeds, line_numbered}
+use Rattle.script_text.specs.LineOfText.{behind_feeds, line_numbered}
 use Rattle.script_text.specs.WellFormed.{Rise, IsWellFormed}
-use Rattle.script_text.proofs.WordBytes.{IsWord}
 use Rattle.script_text.proofs.StatementsAgain.{action_word}
 use Rattle.trace_judge.specs.Lines.{before_lines, lines_of}
 use Rattle.trace_judge.proofs.Splits.{lines_by_first}
 use Rattle.stream_runs.specs.PageRuns.{item_line}
 use Rattle.stream_runs.proofs.Alone.{AreWithin, FitsIn}
+use Rattle.script_text.proofs.LineWords.{word_long}
+use Rattle.script_text.proofs.LinesHeld.{rise_from}
+use Rattle.trace_judge.proofs.Judged.{left_some}
 
 -- whatever is read is well formed
 abbrev pub FormLaw : Type 0
@@ -34,9 +36,6 @@ unfolding line_text
 joined-some word [] some = some
 joined-some word (next ∷ words) some = let both = length-append word (32 ∷ join_with_byte 32 (next ∷ words)) in omega arith
 
-word-some : (text : List ℕ) → IsWord text → 0 < length text
-word-some text word = let long = ap length word.text_is in omega arith
-
 record Begins (item : Item) : Type 0 where
   words : List (List ℕ)
   rest : List NumberedLine
@@ -49,7 +48,7 @@ begins (Outside (Simple line action)) = record {
   words = action_words action;
   rest = [];
   are = refl;
-  some = joined-some (action_head Second action) (all_words (action_parts Second action)) (word-some (action_head Second action) (action_word Second action));
+  some = joined-some (action_head Second action) (all_words (action_parts Second action)) (word_long (action_head Second action) (action_word Second action));
 }
 begins (Outside (Each line block last)) = record {
   words = codes "each" ∷ [];
@@ -73,15 +72,10 @@ begins (Handler line name block last) = record {
 
 -- ---- lines that rise
 
-rise-below : (less number : ℕ) (lines : List NumberedLine) → less ≤ number → Rise number lines → Rise less lines
-unfolding Rise
-rise-below less number [] below rise = tt
-rise-below less number (l ∷ ls) below rise = (let above = rise.0 in omega arith, rise.1)
-
 rise-behind : (number : ℕ) (front lines : List NumberedLine) → Rise number (front ++ lines) → Rise number lines
 unfolding Rise
 rise-behind number [] lines rise = rise
-rise-behind number (l ∷ ls) lines rise = let above = rise.0 in rise-below number l.number lines (omega arith) (rise-behind l.number ls lines rise.1)
+rise-behind number (l ∷ ls) lines rise = let above = rise.0 in rise_from number l.number lines (omega arith) (rise-behind l.number ls lines rise.1)
 
 all-behind : (P : NumberedLine → Type 0) (front lines : List NumberedLine) → AllByRecursion P (front ++ lines) → AllByRecursion P lines
 all-behind P [] lines all = all
@@ -102,11 +96,6 @@ within k most (item ∷ others) rise all =
     (first.0, each.0 it.some, within (item_line item) most others (rise-behind (item_line item) it.rest (items_lines others) first.1) (all-behind (StandsIn most) it.rest (items_lines others) each.1))
 
 -- ---- lines of a text
-
-first-some : (text : List ℕ) → 0 < length (first_line text) → 0 < length text
-unfolding first_line
-first-some [] some = some
-first-some (b ∷ bs) some = omega arith
 
 before-more : (b : ℕ) (lines : List (List ℕ)) → length lines ≤ length (before_lines b lines)
 before-more b [] = omega arith
@@ -129,7 +118,7 @@ feeds-few (suc n) (b ∷ bs) some = feeds-at (b == 10) n b (behind_feeds n bs) (
 -- a line with a byte is one of the text
 line-inside : (number : ℕ) (text : List ℕ) → 0 < length (line_numbered number text) → number ≤ length (lines_of text)
 unfolding line_numbered
-line-inside number text some = let few = feeds-few (number - 1) text (first-some (behind_feeds (number - 1) text) some) in omega arith
+line-inside number text some = let few = feeds-few (number - 1) text (left_some (behind_feeds (number - 1) text) some) in omega arith
 
 stand-inside : (text : List ℕ) (most : ℕ) (lines : List NumberedLine) → length (lines_of text) ≤ most
     → AllByRecursion (λ l. length (line_text l.words) ≤ length (line_numbered l.number text)) lines → AllByRecursion (StandsIn most) lines
@@ -146,7 +135,7 @@ stand-inside text most (l ∷ ls) few all = (
 
 by-read : FormLaw → LengthLaw → (text : List ℕ) (most : ℕ) → length (lines_of text) ≤ most → (read : Reading) → reading text ≡ read → FitsIn most read
 by-read form long text most few (Ok script) is =
-    within 0 most script.items (rise-below 0 1 (items_lines script.items) (omega arith) (form text script is).numbers_rise)
+    within 0 most script.items (rise_from 0 1 (items_lines script.items) (omega arith) (form text script is).numbers_rise)
     (stand-inside text most (items_lines script.items) few (recursion_from_All (λ l. length (line_text l.words) ≤ length (line_numbered l.number text)) (items_lines script.items) (long text script is)))
 by-read form long text most few (Err refusal) is = tt
 

@@ -15,10 +15,10 @@ use Rattle.thresholds.specs.Areas.{LiesIn}
 le_true : (a b : ℤ) → a ≤ℤ b → int_le a b ≡ true
 le_true a b h = grind (arith, ints)
 
-le_of : (a b : ℤ) → int_le a b ≡ true → a ≤ℤ b
+pub le_of : (a b : ℤ) → int_le a b ≡ true → a ≤ℤ b
 le_of a b e = grind (arith, ints)
 
-in_order : (p q : Bool) → p && q ≡ true → (p ≡ true) × (q ≡ true)
+pub in_order : (p q : Bool) → p && q ≡ true → (p ≡ true) × (q ≡ true)
 in_order true q e = (refl, e)
 in_order false q e = cc
 
@@ -89,10 +89,10 @@ ratio_some bounds cut some =
 
 -- a common part lies in the first rectangle
 
-lower : (a b c : ℤ) → a ≤ℤ b → a ≤ℤ int_max b c
+pub lower : (a b c : ℤ) → a ≤ℤ b → a ≤ℤ int_max b c
 lower a b c h = grind (arith, ints)
 
-upper : (a b c : ℤ) → b ≤ℤ a → int_min b c ≤ℤ a
+pub upper : (a b c : ℤ) → b ≤ℤ a → int_min b c ≤ℤ a
 upper a b c h = grind (arith, ints)
 
 overlap_inside : (outer inner other : Rect) → LiesIn outer inner → LiesIn outer (overlap inner other)

@@ -11,7 +11,7 @@ use Rattle.page_model.specs.Chains.{moved_out}
 crossed : (a b c d : ℤ) → int_le b d ≡ false → int_le (int_max a b) (int_min c d) ≡ false
 crossed a b c d e = grind (arith, ints)
 
-not_both : (p q r s : Bool) → p && q ≡ false → (p ≡ false → r ≡ false) → (q ≡ false → s ≡ false) → r && s ≡ false
+pub not_both : (p q r s : Bool) → p && q ≡ false → (p ≡ false → r ≡ false) → (q ≡ false → s ≡ false) → r && s ≡ false
 not_both true q true s e f g = g e
 not_both true q false s e f g = refl
 not_both false q r s e f g = ap (λ v. v && s) (f refl)

@@ -25,7 +25,7 @@ before_again [] ys rest = refl
 before_again (x ∷ xs) ys rest = ap (λ r. 32 ∷ (x ++ r)) (before_again xs ys rest)
 
 -- joined fields by the first one and those behind it
-joined_before : (first : List ℕ) (fields : List (List ℕ)) (rest : List ℕ) → join_with_byte 32 (first ∷ fields) ++ rest ≡ first ++ before fields rest
+pub joined_before : (first : List ℕ) (fields : List (List ℕ)) (rest : List ℕ) → join_with_byte 32 (first ∷ fields) ++ rest ≡ first ++ before fields rest
 joined_before first [] rest = refl
 joined_before first (field ∷ fields) rest =
     append_assoc first (32 ∷ join_with_byte 32 (field ∷ fields)) rest ∙ ap (λ r. first ++ (32 ∷ r)) (joined_before field fields rest)

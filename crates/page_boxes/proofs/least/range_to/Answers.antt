@@ -3,11 +3,11 @@ use Rattle.layout_model.specs.Views.{inputs_in_view}
 use Rattle.element_tree.proofs.Levels.{kid_parent}
 use Rattle.layout_model.specs.Nodes.{IsListed}
 use Rattle.block_layout.specs.Trees.{layout_tree}
-use Rattle.block_layout.proofs.Forests.{shallow}
+use Rattle.block_layout.proofs.Forests.{shallow, has_contains}
 use Rattle.block_layout.proofs.Nodes.{parent_is}
 use Rattle.kept_layout.proofs.Shapes.{shaped}
 use Rattle.page_boxes.proofs.Parents.{some_found}
-use Rattle.page_boxes.proofs.Edges.{nothing_within, listed_in, kid_boxed, child_within}
+use Rattle.page_boxes.proofs.Edges.{nothing_within, kid_boxed, child_within}
 use Rattle.page_boxes.proofs.least.range_to.Goals as goal
 
 pub returns-then-is_hidden-clause-within : goal.returns-then-is_hidden-clause-within
@@ -28,7 +28,7 @@ returns-clause-within g c view holds boxed =
     let at = layout_tree g.P.Styled.style g.P.Styled.kind nodes in
     let forest = c.shift-corner.ensures.forest in
     let shape = shaped g.P.Styled.style g.P.Styled.kind forest in
-    let listed : IsListed at = λ d p over. listed_in (at p).children d (shape.listed d p over) in
+    let listed : IsListed at = λ d p over. has_contains (at p).children d (shape.listed d p over) in
     let low = shallow g.P.Styled.style g.P.Styled.kind forest in
     let n = c.args.node.0 in
     let child = c.args.child.0 in

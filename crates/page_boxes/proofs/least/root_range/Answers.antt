@@ -1,10 +1,10 @@
 use Rattle.std.proofs.Common.{◌∙◌, sym, refl}
 use Rattle.layout_model.specs.Nodes.{IsListed}
 use Rattle.block_layout.specs.Trees.{layout_tree}
-use Rattle.block_layout.proofs.Forests.{shallow}
+use Rattle.block_layout.proofs.Forests.{shallow, has_contains}
 use Rattle.kept_layout.proofs.Shapes.{shaped}
 use Rattle.page_boxes.specs.Pages.{seen_pair}
-use Rattle.page_boxes.proofs.Edges.{nothing_within, listed_in, root_boxed, root_within}
+use Rattle.page_boxes.proofs.Edges.{nothing_within, root_boxed, root_within}
 use Rattle.page_boxes.proofs.least.root_range.Goals as goal
 
 pub returns-then-is_hidden-clause-within : goal.returns-then-is_hidden-clause-within
@@ -21,7 +21,7 @@ returns-clause-within g c top view is holds =
     let pair = seen_pair c.args.shown.size in
     let forest = c.shift-corner.ensures.forest in
     let shape = shaped g.P.Styled.style g.P.Styled.kind forest in
-    let listed : IsListed at = λ d p over. listed_in (at p).children d (shape.listed d p over) in
+    let listed : IsListed at = λ d p over. has_contains (at p).children d (shape.listed d p over) in
     let low = shallow g.P.Styled.style g.P.Styled.kind forest in
     let boxed = root_boxed at view c.args.boxes.now holds listed low root top hidden pair is in
     root_within at view c.args.boxes.now holds listed low root top hidden pair is

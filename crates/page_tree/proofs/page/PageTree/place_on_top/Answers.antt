@@ -4,7 +4,6 @@ use Rattle.page_model.specs.World.{InDocument}
 use Rattle.page_model.specs.Commands.{placing}
 use Rattle.page_documents.specs.Held.{HeldDocuments}
 use Rattle.page_documents.specs.Seen.{seen_tree}
-use Rattle.page_documents.proofs.Adopting.{change_length}
 use Rattle.page_documents.proofs.Placing.{placing_framed}
 use Rattle.page_documents.specs.Frames.{MakeTrees}
 use Rattle.page_tree.specs.Items.{carried_in}
@@ -15,6 +14,7 @@ use Rattle.page_tree.proofs.Inserting.{top_put}
 use Rattle.page_tree.proofs.Outcomes.{kept_then, kept_removed, kept_adopted, kept_rest, kept_count, IsPage-kept, document_within, some_still}
 use Rattle.page_tree.proofs.Moves.{placed_only}
 use Rattle.page_tree.proofs.page.PageTree.place_on_top.Goals as goal
+use Rattle.element_tree.proofs.Nodes.{length-changed}
 
 pub returns-then-is_no_root-clause-refused : goal.returns-then-is_no_root-clause-refused
 returns-then-is_no_root-clause-refused c =
@@ -82,7 +82,7 @@ returns-clause-documents c =
     ap (λ (it : HeldDocuments). length it.held) c.entered.ensures.shown
     ∙ shown_count _ (c.args.node.0)
     ∙ ap (λ (it : HeldDocuments). length it.held) c.set_root.ensures
-    ∙ change_length _ c.args.document.0 _
+    ∙ length-changed _ c.args.document.0 _
     ∙ ap (λ (it : HeldDocuments). length it.held) c.leave.ensures
     ∙ removed_count _ (c.args.node.0)
     ∙ ap (λ (page : PageElements). length page.tree.documents) c.self.view_is
