@@ -1,6 +1,6 @@
 -- The turn of a page at one of its lines.
 use Rattle.std.proofs.Common.{◌≡◌, ◌∙◌, refl, sym, ap, subst, ℕ, zero, suc, ◌+◌, ◌<◌, true, false, cond, List, [], ◌∷◌, length, map, drop, get_or, Option, arith}
-use Rattle.std.specs.Prelude.{Some, None, slice_get}
+use Rattle.std.specs.Prelude.{Some, None, slice_get, Bool, not, ◌&&◌}
 use Rattle.std.proofs.lemmas.Bool.{false≢true}
 use Rattle.std.proofs.lemmas.List.Elements.{All-nil}
 use Rattle.text_io.specs.declared.kinds.LimitKind.{LimitKind}
@@ -23,6 +23,7 @@ use Rattle.stream_replay.specs.StreamPages.{seen_standing, item_begins}
 use Rattle.stream_replay.specs.declared.stream_page.Running.{Running}
 use Rattle.stream_replay.specs.declared.stream_page.Standing.{Standing}
 use Rattle.stream_replay.specs.declared.stream_page.Standing.TheVariants as standing
+use Rattle.stream_replay.specs.declared.stream_page.Refusal.TheVariants as refusal
 use Rattle.run_replies.proofs.Summaries.{gathered_trace, gathered_more}
 
 never : {A : Type 0} → false ≡ true → A
@@ -105,12 +106,29 @@ module _ (line : ℕ) (script : List Item) (k : ℕ) (world : World) where
         ap (λ flow. stands_by flow (handlers_in script) (drop (k + 1) script) (said.state)) (sym met.flow_is)
         ∙ ap (λ (t : Turn). t.standing) (sym (begun item is at))
 
--- a page that doesn't run
-pub turn_over : (line : ℕ) (it : Standing) → ((running : Running) → it ≡ standing.Running running → ⊥) → turn_at line (seen_standing it) ≡ passed (seen_standing it)
+-- a page whose script was refused
+pub turn_over : (line : ℕ) (it : Standing) → ((running : Running) → it ≡ standing.Opened running → ⊥) → turn_at line (seen_standing it) ≡ passed (seen_standing it)
 unfolding turn_at
-turn_over line (standing.Running running) none = absurd (none running refl)
-turn_over line standing.Faulty none = refl
-turn_over line standing.LimitMet none = refl
+turn_over line (standing.Opened running) none = absurd (none running refl)
+turn_over line (standing.Refused refusal.Faulty) none = refl
+turn_over line (standing.Refused refusal.LimitMet) none = refl
+
+-- a page that isn't run at a line: it was stopped, or its next item begins on another
+pub turn_idle : (stopped : Bool) (line : ℕ) (script : List Item) (k : ℕ) (world : World) → not stopped && item_begins line (slice_get script k) ≡ false
+    → turn_at line (cond stopped (Over outcomes.LimitMet) (Going (handlers_in script) (drop k script) world))
+    ≡ passed (cond stopped (Over outcomes.LimitMet) (Going (handlers_in script) (drop k script) world))
+unfolding turn_at
+turn_idle true line script k world is = refl
+turn_idle false line script k world is = turn_passed line script k world is
+
+-- a page that is run at a line wasn't stopped, and its next item is there
+pub goes_on : (stopped begun : Bool) → not stopped && begun ≡ true → stopped ≡ false
+goes_on true begun is = absurd (false≢true is)
+goes_on false begun is = refl
+
+pub begun_too : (stopped begun : Bool) → not stopped && begun ≡ true → begun ≡ true
+begun_too true begun is = absurd (false≢true is)
+begun_too false begun is = is
 
 -- nothing is said then
 pub nothing_said : (taken : List ℕ) (turn : Turn) (standing : PageStanding) → taken ≡ [] → turn ≡ passed standing → IsTrace taken turn.lines

@@ -1,5 +1,5 @@
 -- What the pages of a stream stand for as they run.
-use Rattle.std.specs.Prelude.{ℕ, ◌==◌, Bool, true, false, drop, slice_get, Option, Some, None}
+use Rattle.std.specs.Prelude.{◌≡◌, ℕ, ◌==◌, ◌&&◌, not, cond, Bool, false, drop, slice_get, Option, Some, None}
 use Rattle.script_model.specs.Syntax.{Item}
 use Rattle.script_model.specs.Scripts.{handlers_in}
 use Rattle.page_model.specs.Outcome as outcomes
@@ -9,39 +9,38 @@ use Rattle.stream_runs.specs.PageRuns.{PageRun, item_line}
 use Rattle.stream_replay.specs.declared.stream_page.Running.{Running}
 use Rattle.stream_replay.specs.declared.stream_page.Standing.{Standing}
 use Rattle.stream_replay.specs.declared.stream_page.Standing.TheVariants as standing
+use Rattle.stream_replay.specs.declared.stream_page.Refusal.TheVariants as refusal
 use Rattle.stream_replay.specs.declared.stream_page.StreamPage.{StreamPage}
 
--- the items that are left of a script, and the world of its page
+-- the items that are left of a script, and the world of its page; a page that met a limit has come to its end
 abbrev pub seen_running : Running → runs.Standing
-seen_running it = runs.Going (handlers_in it.script.items) (drop it.next it.script.items) it.page.world
+seen_running it =
+    cond it.is_stopped (runs.Over outcomes.LimitMet) (runs.Going (handlers_in it.script.items) (drop it.next it.script.items) it.page.world)
 
 abbrev pub seen_standing : Standing → runs.Standing
-seen_standing (standing.Running it) = seen_running it
-seen_standing standing.Faulty = runs.Over outcomes.Faulty
-seen_standing standing.LimitMet = runs.Over outcomes.LimitMet
+seen_standing (standing.Opened it) = seen_running it
+seen_standing (standing.Refused refusal.Faulty) = runs.Over outcomes.Faulty
+seen_standing (standing.Refused refusal.LimitMet) = runs.Over outcomes.LimitMet
 
 abbrev pub seen_page : StreamPage → PageRun
 seen_page it = record { name = it.name; standing = seen_standing it.standing }
-
--- how a page stands behind an item: it goes on, or met a limit
-abbrev pub left_by : Bool → Running → runs.Standing
-left_by true it = seen_running it
-left_by false it = runs.Over outcomes.LimitMet
 
 -- whether this item is there and begins on a line
 abbrev pub item_begins : ℕ → Option Item → Bool
 item_begins line None = false
 item_begins line (Some item) = item_line item == line
 
--- whether the next item of a script begins on a line
+-- whether the next item of a script is run at a line
 abbrev pub begins : ℕ → Running → Bool
-begins line it = item_begins line (slice_get it.script.items it.next)
+begins line it = not it.is_stopped && item_begins line (slice_get it.script.items it.next)
 
--- a page that runs is ready for its next item
+-- a page that goes on is ready for its next item
+abbrev pub IsReadyToRun : Running → Type 0
+IsReadyToRun it = it.is_stopped ≡ false → IsReady it.script.items it.page.world
+
 abbrev pub IsReadyStanding : Standing → Type 0
-IsReadyStanding (standing.Running it) = IsReady it.script.items it.page.world
-IsReadyStanding standing.Faulty = Unit {0}
-IsReadyStanding standing.LimitMet = Unit {0}
+IsReadyStanding (standing.Opened it) = IsReadyToRun it
+IsReadyStanding (standing.Refused refusal) = Unit {0}
 
 abbrev pub IsReadyPage : StreamPage → Type 0
 IsReadyPage it = IsReadyStanding it.standing

@@ -17,10 +17,11 @@ ghost use Rattle.stream_runs.specs.PageRuns.{ending_at, opened, refused_lines};
 ghost use Rattle.stream_replay.specs.StreamReplies.{pages_reply, run_reply, IsolatesPages};
 ghost use Rattle.stream_runs.specs.StreamRuns.{named_text, parts_run, refused_text, scripts_of, stream_opened, stream_run};
 ghost use Rattle.stream_replay.specs.StreamStatuses.{is_faulty, met_limit, stream_status};
+ghost use Rattle.stream_replay.specs.declared.stream_page.Standing.TheVariants.{Refused};
 ghost use Rattle.stream_replay.specs.StreamPages.{seen_page, seen_standing, IsReadyPage};
 
 use crate::named::write_named;
-use crate::stream_page::{Running, Standing, StreamPage, take_turn};
+use crate::stream_page::{Refusal, Running, Standing, StreamPage, take_turn};
 use page_state::Page;
 use page_stream::{Part, Stream, StreamFault, split};
 use run_replies::{Status, meet_limit, refuse_at, status_of};
@@ -43,18 +44,6 @@ const MOST_STREAM: usize = 16_777_216;
 /// The most pages of a stream.
 const MOST_PAGES: usize = 8;
 
-// A page before its first command, behind those that are there. Where no memory is left for the list it is dropped, which is long to
-// prove: here alone.
-fn push_page(pages: &mut Vec<StreamPage>, page: StreamPage) -> Result<(), RunFault>
-    ensures ok { OnOk result (pages.new.items ≡ pages.old.items ++ (page ∷ [])) }
-    ensures err { OnErr result (result ≡ Err RunFault.Memory) }
-{
-    match pages.push(page) {
-        Ok(()) => Ok(()),
-        Err(_) => Err(RunFault::Memory),
-    }
-}
-
 // A page whose script is read.
 fn add_page(
     alloc: Global,
@@ -66,6 +55,10 @@ fn add_page(
     ensures ready { OnOk result (All IsReadyPage pages.old.items → All IsReadyPage pages.new.items) }
     ensures err { OnErr result (result ≡ Err RunFault.Memory) }
 {
+    // Room comes first, so that no page is dropped for want of it, which is long to prove.
+    let Ok(()) = pages.reserve(1) else {
+        return Err(RunFault::Memory);
+    };
     let Ok(page) = Page::new(alloc, script.version()) else {
         return Err(RunFault::Memory);
     };
@@ -73,14 +66,13 @@ fn add_page(
         script,
         page,
         next: 0,
+        is_stopped: false,
     };
-    push_page(
-        pages,
-        StreamPage {
-            name,
-            standing: Standing::Running(running),
-        },
-    )
+    pages.push_reserved(StreamPage {
+        name,
+        standing: Standing::Opened(running),
+    });
+    Ok(())
 }
 
 // A page whose script is refused, and the line that says so.
@@ -88,15 +80,21 @@ fn refuse_page<K: Sink>(
     alloc: Global,
     name: Name,
     line: &TraceLine,
-    standing: Standing,
+    refusal: Refusal,
     pages: &mut Vec<StreamPage>,
     sink: &mut K,
 ) -> Result<(), RunFault>
     requires { HasReach (seen_line line.now) }
     ensures wrote { Wrote result (K.taken sink.old) (K.taken sink.new) (K.faults sink.old) (K.faults sink.new) (named_text name (seen_line line.now ∷ [])) }
-    ensures pages { OnOk result (pages.new.items ≡ pages.old.items ++ (record { name = name; standing = standing } ∷ [])) }
+    ensures pages { OnOk result (pages.new.items ≡ pages.old.items ++ (record { name = name; standing = Refused refusal } ∷ [])) }
 {
-    push_page(pages, StreamPage { name, standing })?;
+    let Ok(()) = pages.reserve(1) else {
+        return Err(RunFault::Memory);
+    };
+    pages.push_reserved(StreamPage {
+        name,
+        standing: Standing::Refused(refusal),
+    });
     let mut gathered = GatherSink::new(alloc);
     let Ok(()) = write_one(alloc, line, &mut gathered) else {
         return Err(RunFault::Memory);
@@ -131,12 +129,12 @@ fn open_page<K: Sink>(
         Err(ParseFault::Syntax { line, column }) => {
             let line = TraceLine::Syntax(line, column);
             ends_once(&line);
-            refuse_page(alloc, name, &line, Standing::Faulty, pages, sink)
+            refuse_page(alloc, name, &line, Refusal::Faulty, pages, sink)
         }
         Err(ParseFault::ScriptLimit { kind, line }) => {
             let line = TraceLine::Limit(kind, line, kind.common());
             ends_once(&line);
-            refuse_page(alloc, name, &line, Standing::LimitMet, pages, sink)
+            refuse_page(alloc, name, &line, Refusal::LimitMet, pages, sink)
         }
         Err(ParseFault::Memory) => Err(RunFault::Memory),
     }

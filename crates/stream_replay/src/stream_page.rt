@@ -1,17 +1,15 @@
 //! A page of a stream, as it runs.
 
-ghost use Rattle.std.specs.Prelude.{◌≡◌, true, [], IfOk, OnOk, OnErr, Err};
+ghost use Rattle.std.specs.Prelude.{◌≡◌, true, [], OnOk, OnErr, Err};
 ghost use Rattle.std.specs.List.{All};
 ghost use Rattle.script_syntax.specs.Seen.{item_of};
-ghost use Rattle.frame_update.specs.Ready.{IsReady};
 ghost use Rattle.trace_runs.specs.Writes.{Wrote};
 ghost use Rattle.trace_summary.specs.Counts.{IsTrace};
 ghost use Rattle.stream_runs.specs.Alone.{IsOneLine};
 ghost use Rattle.stream_runs.specs.PageRuns.{ending_at, item_line, turn_at};
 ghost use Rattle.stream_runs.specs.StreamRuns.{named_text};
 ghost use Rattle.stream_replay.specs.StreamStatuses.{is_faulty, met_limit};
-ghost use Rattle.stream_replay.specs.StreamPages.{begins, left_by, seen_page, seen_running, seen_standing, IsReadyPage, IsReadyStanding};
-ghost use Rattle.stream_replay.specs.declared.stream_page.Standing.TheVariants.{LimitMet};
+ghost use Rattle.stream_replay.specs.StreamPages.{begins, seen_page, seen_running, seen_standing, IsReadyPage, IsReadyStanding, IsReadyToRun};
 
 use crate::named::write_named;
 use page_state::Page;
@@ -33,17 +31,24 @@ pub struct Running {
     pub page: Page,
     /// How many of the items were run.
     pub next: usize,
+    /// Whether it met a limit, so that it isn't run on.
+    pub is_stopped: bool,
+}
+
+/// Why a script was refused.
+#[derive(Clone, Copy, Debug, PartialEq, Eq)]
+pub enum Refusal {
+    Faulty,
+    LimitMet,
 }
 
 /// How a page of a stream stands.
 #[derive(Drop)]
 pub enum Standing {
-    /// It goes on, or has come to its end.
-    Running(Running),
-    /// Its script was refused with a fault.
-    Faulty,
-    /// Its script was refused with a limit, or it met one.
-    LimitMet,
+    /// Its script was read: it goes on, has come to its end, or was stopped.
+    Opened(Running),
+    /// Its script was refused, so that there is no page.
+    Refused(Refusal),
 }
 
 impl Standing {
@@ -51,8 +56,8 @@ impl Standing {
         ensures { result ≡ is_faulty (ending_at (seen_standing self.now)) }
     {
         match self {
-            Standing::Faulty => true,
-            Standing::Running(_) | Standing::LimitMet => false,
+            Standing::Refused(Refusal::Faulty) => true,
+            Standing::Opened(_) | Standing::Refused(Refusal::LimitMet) => false,
         }
     }
 
@@ -60,8 +65,8 @@ impl Standing {
         ensures { result ≡ met_limit (ending_at (seen_standing self.now)) }
     {
         match self {
-            Standing::LimitMet => true,
-            Standing::Running(_) | Standing::Faulty => false,
+            Standing::Opened(running) => running.is_stopped,
+            Standing::Refused(refusal) => *refusal == Refusal::LimitMet,
         }
     }
 }
@@ -84,30 +89,33 @@ fn first_line(item: &Item) -> u32
     }
 }
 
-// Whether the next item begins on a line.
+// Whether the next item is run at a line.
 fn next_begins(running: &Running, line: u32) -> bool
     ensures { result ≡ begins line running.now }
 {
+    if running.is_stopped {
+        return false;
+    }
     match running.script.items().get(running.next) {
         Some(item) => first_line(item) == line,
         None => false,
     }
 }
 
-// Runs the next item, and gathers its lines, that of a limit included. It answers whether the page goes on.
+// Runs the next item, and gathers its lines, that of a limit included.
 fn run_next<L: Ledger>(
     alloc: Global,
     running: &mut Running,
     line: u32,
     gathered: &mut GatherSink,
     steps: &mut Steps<L>,
-) -> Result<bool, RunFault>
-    requires ready { IsReady running.old.script.items running.old.page.world }
+) -> Result<(), RunFault>
+    requires ready { IsReadyToRun running.old }
     requires begins { begins line running.old ≡ true }
     requires empty { gathered.old.taken ≡ [] }
     ensures lines { OnOk result (IsTrace gathered.new.taken (turn_at line (seen_running running.old)).lines) }
-    ensures standing { IfOk result (λ goes_on. left_by goes_on running.new ≡ (turn_at line (seen_running running.old)).standing) }
-    ensures ready { IfOk result (λ goes_on. goes_on ≡ true → IsReady running.new.script.items running.new.page.world) }
+    ensures standing { OnOk result (seen_running running.new ≡ (turn_at line (seen_running running.old)).standing) }
+    ensures ready { OnOk result (IsReadyToRun running.new) }
     ensures memory { OnErr result (result ≡ Err RunFault.Memory) }
 {
     let item = &running.script.items()[running.next];
@@ -121,24 +129,18 @@ fn run_next<L: Ledger>(
     ) {
         Ok(()) => {
             running.next += 1;
-            Ok(true)
+            Ok(())
         }
         Err(RunFault::Limit { kind, line, number }) => {
+            running.is_stopped = true;
             match write_limit(alloc, kind, line, number, gathered) {
-                Ok(()) => Ok(false),
+                Ok(()) => Ok(()),
                 Err(_) => Err(RunFault::Memory),
             }
         }
         // In memory a write fails for want of it alone.
         Err(RunFault::Memory | RunFault::WriteFault) => Err(RunFault::Memory),
     }
-}
-
-// A page that met a limit isn't run on: its script and its page are dropped.
-fn stop(standing: &mut Standing)
-    ensures { standing.new ≡ LimitMet }
-{
-    *standing = Standing::LimitMet;
 }
 
 // The turn of a page that stands so: its lines are gathered.
@@ -156,16 +158,13 @@ fn turn<L: Ledger>(
     ensures ready { OnOk result (IsReadyStanding standing.new) }
     ensures memory { OnErr result (result ≡ Err RunFault.Memory) }
 {
-    let Standing::Running(running) = standing else {
+    let Standing::Opened(running) = standing else {
         return Ok(());
     };
     if !next_begins(running, line) {
         return Ok(());
     }
-    if !run_next(alloc, running, line, gathered, steps)? {
-        stop(standing);
-    }
-    Ok(())
+    run_next(alloc, running, line, gathered, steps)
 }
 
 /// A line of a page: the next item is run where it begins there, and its lines are written with the page's name.
