@@ -22,8 +22,8 @@ use Rattle.candidate_index.specs.Asked.{asked_if, asked_for, steps_if, steps_for
 use Rattle.candidate_index.specs.Held.{kept_of, is_stale, is_stale_now}
 use Rattle.kept_findings.specs.Walks.{EachAlong, AlongChain, AreChained, chain_between, spots_between}
 use Rattle.kept_findings.specs.Views.{seen_for}
-use Rattle.kept_findings.proofs.Settled.{at_changed, standing_settled, serials_settled, alike_by}
-use Rattle.intersection_update.specs.Updating.{Carried}
+use Rattle.kept_findings.proofs.Settled.{at_changed, standing_settled, serials_settled}
+use Rattle.intersection_update.specs.Updating.{AreAlike, Carried}
 use Rattle.element_tree.proofs.Nodes.{length-changed}
 
 pub carried_same : (it : IntersectionObservers) → Carried it it
@@ -47,6 +47,12 @@ carried_then first second third one two = record {
   serials = λ has. two.serials (one.serials has);
   count = two.count ∙ one.count;
 }
+
+alike_by : (place : Option Place) (time watcher : ℕ) (now : Finding) (it : IntersectionObservers) → AreAlike (intersection_observer_at it watcher) (intersection_observer_at (settled_standing place time now it) watcher)
+alike_by None time watcher now it = record { root = refl; margins = refl; thresholds = refl }
+alike_by (Some place) time watcher now it =
+    at_changed AreAlike (λ x. record { root = refl; margins = refl; thresholds = refl }) no_intersection_observer (settled_at (place.target) time now)
+    (λ x. record { root = refl; margins = refl; thresholds = refl }) (place.watcher) watcher (it.made)
 
 -- the serial numbers of registrations, which settling leaves
 numbers : List Registration → List ℕ

@@ -5,6 +5,7 @@ use Rattle.px_units.specs.declared.Point.{Point}
 use Rattle.run_replies.specs.declared.words.Job.{Job}
 use Rattle.run_replies.specs.declared.words.Job.TheVariants.{Replay, Check, Lint, Summary, Print, AtTick}
 use Rattle.run_replies.specs.declared.words.Sight.{Sight}
+use Rattle.run_replies.specs.declared.words.Sight.TheVariants.{Boxes, Hits}
 use Rattle.run_replies.specs.declared.words.Words.{Words}
 use Rattle.run_replies.specs.declared.words.Words.TheVariants.{Script, Generated, Judge, Pages}
 

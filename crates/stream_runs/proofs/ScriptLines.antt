@@ -10,7 +10,7 @@ use Rattle.script_text.specs.NumberedLines.{NumberedLine, numbered, end_line, co
 use Rattle.script_text.specs.Phrases.{action_words, action_head, action_parts, condition_words}
 use Rattle.script_text.specs.Parts.{all_words}
 use Rattle.script_text.specs.ScriptText.{line_text}
-use Rattle.script_text.specs.LineOfText.{behind_feeds, line_numbered}
+use Rattle.script_text.specs.LineOfText.{first_line, behind_feeds, line_numbered}
 use Rattle.script_text.specs.WellFormed.{Rise, IsWellFormed}
 use Rattle.script_text.proofs.StatementsAgain.{action_word}
 use Rattle.trace_judge.specs.Lines.{before_lines, lines_of}
@@ -19,7 +19,6 @@ use Rattle.stream_runs.specs.PageRuns.{item_line}
 use Rattle.stream_runs.proofs.Alone.{AreWithin, FitsIn}
 use Rattle.script_text.proofs.LineWords.{word_long}
 use Rattle.script_text.proofs.LinesHeld.{rise_from}
-use Rattle.trace_judge.proofs.Judged.{left_some}
 
 -- whatever is read is well formed
 abbrev pub FormLaw : Type 0
@@ -115,10 +114,15 @@ feeds-few zero text some = some-line text some
 feeds-few (suc n) [] some = absurd (omega arith)
 feeds-few (suc n) (b ∷ bs) some = feeds-at (b == 10) n b (behind_feeds n bs) (behind_feeds (suc n) bs) (lines_of bs) some (feeds-few n bs) (feeds-few (suc n) bs)
 
+first-some : (text : List ℕ) → 0 < length (first_line text) → 0 < length text
+unfolding first_line
+first-some [] some = some
+first-some (b ∷ bs) some = omega arith
+
 -- a line with a byte is one of the text
 line-inside : (number : ℕ) (text : List ℕ) → 0 < length (line_numbered number text) → number ≤ length (lines_of text)
 unfolding line_numbered
-line-inside number text some = let few = feeds-few (number - 1) text (left_some (behind_feeds (number - 1) text) some) in omega arith
+line-inside number text some = let few = feeds-few (number - 1) text (first-some (behind_feeds (number - 1) text) some) in omega arith
 
 stand-inside : (text : List ℕ) (most : ℕ) (lines : List NumberedLine) → length (lines_of text) ≤ most
     → AllByRecursion (λ l. length (line_text l.words) ≤ length (line_numbered l.number text)) lines → AllByRecursion (StandsIn most) lines
