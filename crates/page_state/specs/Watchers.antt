@@ -5,7 +5,7 @@ use Rattle.text_io.specs.declared.kinds.LimitKind.TheVariants as limits
 use Rattle.text_io.specs.declared.kinds.ThrowKind.TheVariants.{RangeError}
 use Rattle.script_model.specs.MarginText.{thresholds_of}
 use Rattle.page_model.specs.World.{IntersectionObservers}
-use Rattle.page_model.specs.Steps.{Step, Did, required, room}
+use Rattle.page_model.specs.Steps.{Step, Did, ◌>>=◌, ◌>>◌, required, room}
 
 -- the thresholds of one more observer: values out of range are thrown for, and then the limit on observers is met
 abbrev pub new_thresholds : Version → List ℤ → IntersectionObservers → Step (List ℕ)
