@@ -9,7 +9,7 @@ ghost use Rattle.script_source.specs.Recorded.{Divides, IsDivided, IsFed, has_fe
 use crate::input::ScriptText;
 use std::alloc::{AllocError, Global};
 use std::marker::Model;
-use text_io::{Failed, Source, TextFault};
+use text_io::{Failed, Source, TextFault, line_feeds};
 use trace_judge::is_divider;
 use trace_summary::split_line;
 
@@ -259,14 +259,6 @@ const MOST_RECORDED: usize = 67_108_864;
 
 // How many bytes a source is read by.
 const PIECE: usize = 4096;
-
-fn line_feeds(piece: &[u8]) -> u32
-    requires { length piece.now ≤ 67108865 }
-    ensures number { result ≡ count_by (λ b. b == 10) piece.now }
-    ensures bound { result ≤ length piece.now }
-{
-    piece.iter().filter(|byte| **byte == b'\n').count() as u32
-}
 
 /// What was taken of a source: bytes and line feeds are counted, whatever the bytes are.
 #[derive(Drop)]

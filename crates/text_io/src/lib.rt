@@ -12,4 +12,4 @@ pub use kinds::{EventKind, LimitKind, ThrowKind, Version};
 pub use memory::{MemorySink, MemorySource};
 pub use name::Name;
 pub use std_streams::{StdSink, StdSource};
-pub use streams::{Failed, Sink, Source, TextFault, read_all, write_all};
+pub use streams::{Failed, Sink, Source, TextFault, line_feeds, read_all, write_all};

@@ -109,7 +109,8 @@ pub fn read_all<S: Source>(
     Err(TextFault::TooLong { feeds })
 }
 
-fn line_feeds(bytes: &[u8]) -> u32
+/// How many line feeds there are. No memory is taken.
+pub fn line_feeds(bytes: &[u8]) -> u32
     requires { length bytes.now < 2 ^ 32 }
     ensures number { result ≡ count_by (λ b. b == 10) bytes.now }
     ensures bound { result ≤ length bytes.now }
