@@ -1,6 +1,6 @@
 //! A source with a recorded trace, read in pieces: its script is taken as it comes, and its trace is held once.
 
-ghost use Rattle.std.specs.Prelude.{◌≡◌, ◌≤◌, ◌<◌, ◌+◌, ◌-◌, ◌==◌, ◌++◌, ℕ, List, [], Some, IsTrue, count_by, false, length, take, IfErr, IfOk, IfSome, OnOk};
+ghost use Rattle.std.specs.Prelude.{◌≡◌, ◌≤◌, ◌<◌, ◌+◌, ◌-◌, ◌==◌, ◌++◌, ℕ, List, [], Some, IsTrue, false, length, take, IfErr, IfOk, IfSome, OnOk};
 ghost use Rattle.text_io.specs.Streams.{IsCauseOfReading};
 ghost use Rattle.trace_judge.specs.Recordings.{is_divider};
 ghost use Rattle.trace_summary.specs.Lines.{first_line};
