@@ -28,7 +28,7 @@ pub trait Boxes {
     /// The box that is held for a node of this number.
     ghost held: { Self → ℕ → Option Box };
 
-    /// The box that is held for the node, None exactly where nothing is held.
+    /// The box that is held for the node, `None` exactly when nothing is held.
     fn box_of(&self, node: NodeId) -> Option<BoxOf>
         ensures { result ≡ held self.now node.0 };
 }
@@ -70,8 +70,8 @@ impl FreshBoxes {
         }
     }
 
-    /// Makes the place of a node, which needn't be in a tree yet, and those of all lower numbers; places that are there
-    /// stay as they are. Refused only where there is no memory, and then nothing changes.
+    /// Makes the place of a node, which needn't be in a tree yet, and those of all lower numbers; places that are there stay
+    /// as they are. Fails only if an allocation fails, and then nothing changes.
     pub fn add(&mut self, node: NodeId) -> Result<(), AllocError>
         ensures added { OnOk result (self.new ≡ with_place node.0 self.old) }
         ensures same { OnErr result (self.new ≡ self.old) }

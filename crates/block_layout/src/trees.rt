@@ -35,7 +35,7 @@ pub trait Styled {
         ensures { seen_kind result ≡ kind self.now };
 }
 
-/// Whether the element itself has `display: none`. No memory.
+/// Whether the element itself has `display: none`. Doesn't allocate.
 pub fn is_hidden<P: Styled>(tree: &Tree<P>, node: NodeId) -> bool
     requires { node.0 < length tree.now.nodes }
     ensures value { result ≡ (layout_tree P.style P.kind tree.now.nodes node.0).item.style.hidden }
@@ -62,7 +62,7 @@ pub(crate) fn is_passed<P: Styled>(tree: &Tree<P>, node: NodeId) -> bool
     }
 }
 
-/// Whether the children of the element may have boxes: those of a block. No memory.
+/// Whether the children of the element may have boxes: those of a block. Doesn't allocate.
 pub fn is_block<P: Styled>(tree: &Tree<P>, node: NodeId) -> bool
     requires { node.0 < length tree.now.nodes }
     ensures value { result ≡ is_block (layout_tree P.style P.kind tree.now.nodes node.0).item.kind }
@@ -74,7 +74,7 @@ pub fn is_block<P: Styled>(tree: &Tree<P>, node: NodeId) -> bool
     }
 }
 
-/// The first of the children that may have boxes. No memory.
+/// The first of the children that may have boxes. Doesn't allocate.
 pub fn first_inner<P: Styled>(tree: &Tree<P>, node: NodeId) -> Option<NodeId>
     requires { node.0 < length tree.now.nodes }
     ensures value { result ≡ node_ids (first_of (kids_of (layout_tree P.style P.kind tree.now.nodes node.0))) }
@@ -96,8 +96,8 @@ fn is_cut(style: &Style) -> bool
     }
 }
 
-/// Whether the element's box, where it has one, cuts its content at its padding box (CSS Overflow 3, 3.1). What `overflow` says at a
-/// root element is the viewport's (CSS Overflow 3, 3.3). No memory.
+/// Whether the element's box, where it has one, cuts its content at its padding box (CSS Overflow 3, 3.1). What `overflow`
+/// says at a root element is the viewport's (CSS Overflow 3, 3.3). Doesn't allocate.
 pub fn is_clipping<P: Styled>(tree: &Tree<P>, node: NodeId) -> bool
     requires { node.0 < length tree.now.nodes }
     ensures value { result ≡ clips (layout_tree P.style P.kind tree.now.nodes node.0) }
@@ -120,8 +120,8 @@ fn is_scrollable(style: &Style) -> bool
     }
 }
 
-/// Whether the element's box, where it has one, is a scroll container (CSS Overflow 3, 3.1). A root element's is none, as it doesn't clip.
-/// No memory.
+/// Whether the element's box, where it has one, is a scroll container (CSS Overflow 3, 3.1). A root element's is none, as it
+/// doesn't clip. Doesn't allocate.
 pub fn is_scroll_container<P: Styled>(tree: &Tree<P>, node: NodeId) -> bool
     requires { node.0 < length tree.now.nodes }
     ensures value { result ≡ is_scroll_container (layout_tree P.style P.kind tree.now.nodes node.0) }

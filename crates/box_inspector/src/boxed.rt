@@ -57,7 +57,7 @@ fn list_down(
 ///
 /// # Errors
 ///
-/// Where there is no memory.
+/// If an allocation fails.
 pub fn elements(
     alloc: Global,
     shown: &Shown<'_>,

@@ -88,7 +88,7 @@ fn list_boxes(alloc: Global, page: &Page, shown: &Shown<'_>) -> Result<Vec<BoxLi
 ///
 /// # Errors
 ///
-/// Where there is no memory.
+/// If an allocation fails.
 pub fn inspect<L: Ledger>(
     alloc: Global,
     page: &mut Page,

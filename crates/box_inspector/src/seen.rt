@@ -27,8 +27,8 @@ fn in_document(shown: &Shown<'_>, node: NodeId, part: Rect) -> Rect
     shift(part, -own.left, -own.top)
 }
 
-/// What the clips on the way from an element to the viewport of `top`, and that viewport, leave of its border box, in the viewport of
-/// the element's document (Intersection Observer, 3.2.7). An edge in common is enough. No memory.
+/// What the clips on the way from an element to the viewport of `top`, and that viewport, leave of its border box, in the
+/// viewport of the element's document (Intersection Observer, 3.2.7). An edge in common is enough. Doesn't allocate.
 ///
 /// Needs that the element has a box. All edges, widths and heights lie between -2^50 and 2^50.
 pub fn seen_part(shown: &Shown<'_>, node: NodeId) -> Option<Rect>
@@ -43,7 +43,7 @@ pub fn seen_part(shown: &Shown<'_>, node: NodeId) -> Option<Rect>
     Some(in_document(shown, node, part))
 }
 
-/// The border box of an element in the viewport of its document (CSS 2.2, 8.1), zeros without a box. No memory.
+/// The border box of an element in the viewport of its document (CSS 2.2, 8.1), zeros without a box. Doesn't allocate.
 pub fn place(shown: &Shown<'_>, node: NodeId) -> Rect
     ensures value { result ≡ rect_of (place_of shown.now node.0) (size_of shown.now node.0 Border) }
     ensures reach { RectReaches result }

@@ -33,8 +33,8 @@ pub struct Kept {
     pub finding: Finding,
 }
 
-/// For each registration that was added what was found of it last and from what, or nothing where it counts as never computed.
-/// A clause sees this by serial numbers.
+/// For each registration that was added what was found of it last and from what, or nothing where it counts as never
+/// computed. Contracts see this by serial numbers.
 ///
 /// The pair of a registration in `Clips` has the registration's serial number. Its two spots are that of its observer's root,
 /// which for the implicit root is the `View` of the top document, and that of its target.
@@ -87,8 +87,8 @@ impl Index {
         self.kept.get(registration.0)?
     }
 
-    /// Adds a registration, which counts as never computed. Refused only for want of memory, and never where the registration was
-    /// added; nothing changes then.
+    /// Adds a registration, which counts as never computed. Fails only if an allocation fails, and never where the
+    /// registration was added; nothing changes then.
     pub fn add(&mut self, registration: RegistrationId) -> Result<(), AllocError>
         ensures added { OnOk result (self.new ≡ finite.insert self.old registration.0 None) }
         ensures same { OnErr result (self.new ≡ self.old) }
@@ -98,7 +98,7 @@ impl Index {
         self.kept.insert(registration.0, None)
     }
 
-    /// Forgets a registration. No memory.
+    /// Forgets a registration. Doesn't allocate.
     pub fn forget(&mut self, registration: RegistrationId)
         ensures forgotten { self.new ≡ finite.remove self.old registration.0 }
         ensures found { (watchers : IntersectionObservers) → AreFound watchers self.old → AreFound watchers self.new }
@@ -106,7 +106,7 @@ impl Index {
         self.kept.remove(registration.0);
     }
 
-    /// Lets a registration count as never computed. No memory.
+    /// Lets a registration count as never computed. Doesn't allocate.
     pub fn expire(&mut self, registration: RegistrationId)
         requires { IsAdded self.old registration.0 }
         ensures expired { self.new ≡ finite.insert self.old registration.0 None }
@@ -121,8 +121,8 @@ impl Index {
     ///
     /// A registration that wasn't added counts as never computed.
     ///
-    /// It takes the steps of `clip_of` for those whose chain leads to the root, and no other. Refused only where there is no
-    /// memory, and then nothing changes.
+    /// It takes the steps of `clip_of` for those whose chain leads to the root, and no other. Fails only if an allocation
+    /// fails, and then nothing changes.
     pub fn stale_registrations<S: Scene, L: Ledger>(
         &self,
         scene: &S,
@@ -198,8 +198,8 @@ impl Index {
     /// Finds what there is to find of a registration's target now, and keeps it with what it was found from (Intersection
     /// Observer, 3.2.10). All rectangles are in the coordinates of the top document's viewport.
     ///
-    /// It takes one step, and those of `clip_of` where the chain leads to the root. No memory. Each edge of the root rectangle is moved
-    /// by at most 100 of its widths; the target's box and what is seen of it are in the range of boxes.
+    /// It takes one step, and those of `clip_of` where the chain leads to the root. Doesn't allocate. Each edge of the root
+    /// rectangle is moved by at most 100 of its widths; the target's box and what is seen of it are in the range of boxes.
     pub fn recompute<S: Scene, L: Ledger>(
         &mut self,
         scene: &S,

@@ -1,5 +1,5 @@
-//! What findings over a scene are in a world, and what it means that a registration isn't stale: each law is the clause of a
-//! function that does nothing.
+//! What findings over a scene are in a world, and what it means that a registration isn't stale: each law is stated as the
+//! contract of an empty function.
 
 ghost use Rattle.std.specs.Prelude.{◌≡◌, ◌↔◌, ℕ, List, Option, IsSome, IfSome, true, false};
 ghost use Rattle.std.specs.Ordering.{nat_cmp};
@@ -21,8 +21,8 @@ ghost use Rattle.candidate_index.specs.Registrations.{finding_for, IfChained};
 ghost use Rattle.candidate_index.specs.Held.{kept_of, is_stale_now, AreFound};
 ghost use Rattle.candidate_index.specs.Worlds.{standing_in, told, IsChain};
 
-/// Two bases are told to be the same exactly where they are equal. Where a registration isn't stale, something is kept of it, and that
-/// is what is found of it now.
+/// Two bases are told to be the same exactly when they are equal. Where a registration isn't stale, something is kept of it,
+/// and that is what is found of it now.
 pub fn what_is_not_stale_is_found_as_it_was()
     ensures same { (one other : BasisOf) → (is_same_basis one other ≡ true) ↔ (one ≡ other) }
     ensures found { (scene : SceneOf) (standings : Root → ℕ → StandingOf) (it : IntersectionObservers) (between : ℕ → List ContainerOf) (kept : FinMap nat_cmp (Option KeptOf)) (serial : ℕ) →

@@ -26,10 +26,10 @@ pub struct Delivery {
 
 /// The next delivery of a document (Resize Observer, 3.4: broadcast active observations, up to the callback): of its
 /// observers from `place` on, as they are now, the first with something active; an entry for each active observation, of
-/// sizes as they are now, which become the last reported ones. None exactly where no observer is left that has something
+/// sizes as they are now, which become the last reported ones. `None` exactly when no observer is left that has something
 /// active.
 ///
-/// All is unchanged where memory is refused.
+/// All is unchanged where an allocation fails.
 pub fn next_delivery<Z: Sizes>(
     alloc: Global,
     observers: &mut Observers,
@@ -87,7 +87,7 @@ fn report_active<Z: Sizes>(observers: &mut Observers, sizes: &Z, observer: Obser
     }
 }
 
-/// The end of an observer's turn, once its callback was called: its active list is emptied. No memory.
+/// The end of an observer's turn, once its callback was called: its active list is emptied. Doesn't allocate.
 pub fn end_delivery(observers: &mut Observers, observer: ObserverId)
     requires { observer.0 < length observers.old.part.made }
     ensures ended { observers.new ≡ record observers.old { part = without_active observer.0 (observers.old.part) } }
@@ -96,7 +96,7 @@ pub fn end_delivery(observers: &mut Observers, observer: ObserverId)
     observers.clear_active(observer);
 }
 
-/// The least depth of the entries, of which there is one. No memory.
+/// The least depth of the entries, of which there is one. Doesn't allocate.
 pub fn least_depth(delivery: &Delivery) -> u32
     requires { 0 < length delivery.now.entries }
     ensures { fold shallower None (map seen_entry delivery.now.entries) ≡ Some result }

@@ -12,8 +12,8 @@ use element_tree::DocumentId;
 use resize_observer::{ObserverId, Observers};
 
 /// Gathers the active observations of a document (Resize Observer, 3.4: gather active observations at depth), and answers
-/// how many there are: each observer of the document holds as active those of its targets whose size isn't the last
-/// reported one and which stand deeper than `depth`, and as skipped those whose size isn't and which don't. No memory.
+/// how many there are: each observer of the document holds as active those of its targets whose size isn't the last reported
+/// one and which stand deeper than `depth`, and as skipped those whose size isn't and which don't. Doesn't allocate.
 pub fn gather<Z: Sizes>(
     observers: &mut Observers,
     sizes: &Z,

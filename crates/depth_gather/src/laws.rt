@@ -1,5 +1,5 @@
-//! What gathering and deliveries have to do with the steps of the standard: each law is the clause of a function that does
-//! nothing.
+//! What gathering and deliveries have to do with the steps of the standard: each law is stated as the contract of an empty
+//! function.
 
 ghost use Rattle.std.specs.Prelude.{◌≡◌, ◌≤◌, ◌<◌, ℕ, suc, List, [], map, nat_lt, Some, None};
 ghost use Rattle.page_model.specs.World.{Observation, ResizeObservers};
@@ -9,7 +9,7 @@ ghost use Rattle.depth_gather.specs.Entries.{seen_entry, as_entry};
 ghost use Rattle.depth_gather.specs.Deliveries.{Turn, turn_from, active_at, entries_in};
 ghost use Rattle.depth_gather.specs.Turning.{IsNext};
 
-/// Something is active in a document exactly where the number of what is active isn't 0.
+/// Something is active in a document exactly when the number of what is active isn't 0.
 pub fn something_is_active_where_it_is_counted()
     ensures { (it : ResizeObservers) (document : ℕ) → has_active document it ≡ nat_lt 0 (active_count document it) }
 {}

@@ -34,7 +34,7 @@ pub(crate) fn next_turn(observers: &Observers, document: DocumentId, place: usiz
     None
 }
 
-/// Whether something is skipped in the document (Resize Observer, 3.4: has skipped observations). No memory.
+/// Whether something is skipped in the document (Resize Observer, 3.4: has skipped observations). Doesn't allocate.
 pub fn has_skipped(observers: &Observers, document: DocumentId) -> bool
     ensures { result ≡ has_skipped document.0 observers.now.part }
 {

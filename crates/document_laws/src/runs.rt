@@ -21,8 +21,8 @@ use crate::levels::levels_are_never_cut_off;
 
 /// Over whole runs elements make trees of at most 256 levels, frames and documents belong together, from each Active document the way
 /// from frame to frame leads up to `top`, and there are at most 64 documents. A script opens in such a world, and ends in one. From any
-/// such world in range each command, a command with its block, a callback, a tick and an item leave one, where the entries that are
-/// handed in are of elements that there are and the handlers are those of the script.
+/// such world in range each command, a command with its block, a callback, a tick and an item leave one, where the entries
+/// that are supplied by the caller are of elements that there are and the handlers are those of the script.
 pub fn trees_are_kept()
     ensures opening { (version : Version) → IsWithinLevels (opening_world version).tree }
     ensures steps { (handlers : Handlers) (world : World) → IsInRange (length handlers) world → IsWithinLevels world.tree →

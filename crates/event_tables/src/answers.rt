@@ -2,16 +2,16 @@
 
 use thiserror::Error;
 
-/// Why a call is refused. A refused call changes nothing.
+/// Why a call is refused. A call that fails changes nothing.
 #[derive(Clone, Copy, Debug, PartialEq, Eq, Error)]
 pub enum TableFault {
     /// The document has the key already.
     #[error("the document has the key already")]
     Taken,
-    /// As many as there may be are there.
-    #[error("as many as there may be are there")]
+    /// The maximum number is already present.
+    #[error("the maximum number is already present")]
     Limit,
-    /// There is no memory.
+    /// Out of memory.
     #[error("out of memory")]
     Memory,
 }

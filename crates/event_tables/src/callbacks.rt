@@ -25,7 +25,7 @@ pub(crate) struct Callback {
     pub(crate) handler: HandlerId,
 }
 
-/// Frame callbacks or timers that were copied as a batch began, and weren't handed out yet. A clause sees them as a list of
+/// Frame callbacks or timers that were copied as a batch began, and weren't handed out yet. Contracts see them as a list of
 /// callbacks.
 #[derive(Drop)]
 pub struct Batch {

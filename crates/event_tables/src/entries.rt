@@ -1,4 +1,4 @@
-//! Entries in order of making, each under a key of its own: what the tables of listeners, frame callbacks and timers have in
+//! Entries in creation order, each under a key of its own: what the tables of listeners, frame callbacks and timers have in
 //! common.
 
 ghost use Rattle.std.specs.Prelude.{◌≡◌, ◌<◌, ◌≤◌, ◌+◌, ◌-◌, ◌^◌, [], ◌==◌, false, not, OnOk, OnErr};
@@ -15,7 +15,7 @@ use std::collections::BTreeMap;
 use std::hash::Hash;
 use std::marker::Model;
 
-/// Entries in order of making. A clause sees a table of a world, of serial numbers with what is kept under each, and how many
+/// Entries in creation order. Contracts see a table of a world, of serial numbers with what is kept under each, and how many
 /// there may be. Each look-up is by a hash or goes down a tree, whatever stands in front of the entry.
 #[derive(Drop)]
 pub(crate) struct Entries<K: Eq + Hash, V> {
@@ -41,7 +41,7 @@ impl<K: Eq + Hash, V> Model for Entries<K, V> {
 }
 
 impl<K: Copy + Eq + Hash, V: Copy> Entries<K, V> {
-    /// No entries, which take no memory yet. At most `most` can be held.
+    /// Creates an empty set of entries; allocates nothing. At most `most` can be held.
     pub(crate) fn new(alloc: Global, most: u32) -> Entries<K, V>
         ensures { result ≡ record { part = record { given = 0; held = [] }; most = most } }
     {
@@ -108,7 +108,7 @@ impl<K: Copy + Eq + Hash, V: Copy> Entries<K, V> {
         Ok(())
     }
 
-    /// Takes the entry of a key out. The answer is false, and nothing changes, exactly where there is none.
+    /// Takes the entry of a key out. Returns false, and changes nothing, exactly when there is none.
     pub(crate) fn remove(&mut self, key: K) -> bool
         ensures answer { result ≡ list_any (has_key K.eq key) self.old.part.held }
         ensures removed { self.new ≡ record self.old { part = kept (λ entry. not (has_key K.eq key entry)) (self.old.part) } }

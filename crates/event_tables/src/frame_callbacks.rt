@@ -19,8 +19,8 @@ use std::collections::BTreeMap;
 use std::marker::Model;
 use text_io::Name;
 
-/// The frame callbacks of a page in order of making, each with its document and a key of its own there. A clause sees them
-/// as the definitions of a world do, with the number of serial numbers given, and how many there may be.
+/// The frame callbacks of a page in creation order, each with its document and a key of its own there. Contracts see them as
+/// the definitions of a world do, with the count of serial numbers given out, and how many there may be.
 #[derive(Drop)]
 pub struct FrameCallbacks {
     entries: Entries<DocumentKey, HandlerId>,
@@ -39,7 +39,7 @@ impl Model for FrameCallbacks {
 }
 
 impl FrameCallbacks {
-    /// No frame callbacks, which take no memory yet. At most `most` can be held.
+    /// Creates an empty set of frame callbacks; allocates nothing. At most `most` can be held.
     pub fn new(alloc: Global, most: u32) -> FrameCallbacks
         ensures { result ≡ record { part = record { given = 0; held = [] }; most = most } }
     {
@@ -50,8 +50,8 @@ impl FrameCallbacks {
 
     /// Requests a frame callback of a document under a key, last.
     ///
-    /// `Taken` exactly where the document has the key; else `Limit` exactly where `most` are held; else `Memory` where
-    /// there is none. Fewer than 2^64 - 1 serial numbers were given.
+    /// `Taken` exactly when the document has the key; otherwise `Limit` exactly when `most` are held; otherwise `Memory` if
+    /// an allocation fails. Requires that fewer than 2^64 - 1 serial numbers have been given out.
     pub fn request(
         &mut self,
         document: DocumentId,
@@ -67,8 +67,7 @@ impl FrameCallbacks {
         self.entries.enter(DocumentKey { document, key }, handler)
     }
 
-    /// Cancels the frame callback of a document under a key. The answer is false, and nothing changes, exactly where there
-    /// is none.
+    /// Cancels the frame callback of a document under a key. Returns false, and changes nothing, exactly when there is none.
     pub fn cancel(&mut self, document: DocumentId, key: Name) -> bool
         ensures answer { result ≡ is_frame_requested document.0 key self.old.part }
         ensures cancelled { self.new ≡ record self.old { part = without_frame_callback document.0 key (self.old.part) } }
@@ -85,7 +84,7 @@ impl FrameCallbacks {
     }
 
     /// Takes out the first copied frame callback that still stands, and tells its key and handler; it and those before it
-    /// leave the batch. None exactly where none of those that are left still stands: one that was cancelled and requested
+    /// leave the batch. `None` exactly when none of those that are left still stands: one that was cancelled and requested
     /// anew is another.
     pub fn next(&mut self, batch: &mut Batch) -> Option<(Name, HandlerId)>
         ensures value { option_map {U = List ℕ × ℕ} (λ called. (called.0, called.1.0)) result ≡ option_map told (find (λ it. frame_callback_stands it self.old.part) batch.old) }

@@ -52,8 +52,8 @@ pub(crate) struct Listener {
     pub(crate) key: ListenerKey,
 }
 
-/// The listeners of a page in order of making. A clause sees them as the definitions of a world do, with the number of
-/// serial numbers given, and how many there may be.
+/// The listeners of a page in creation order. Contracts see them as the definitions of a world do, with the count of serial
+/// numbers given out, and how many there may be.
 #[derive(Drop)]
 pub struct Listeners {
     entries: Entries<ListenerKey, ()>,
@@ -72,7 +72,7 @@ impl Model for Listeners {
 }
 
 impl Listeners {
-    /// No listeners, which take no memory yet. At most `most` can be held.
+    /// Creates an empty set of listeners; allocates nothing. At most `most` can be held.
     pub fn new(alloc: Global, most: u32) -> Listeners
         ensures { result ≡ record { part = record { given = 0; held = [] }; most = most } }
     {
@@ -81,11 +81,11 @@ impl Listeners {
         }
     }
 
-    /// Adds a listener, last (DOM, 2.7: add an event listener). The answer is false, and nothing changes, exactly where
-    /// the same handler listens for the same event at the same target already.
+    /// Adds a listener, last (DOM, 2.7: add an event listener). The answer is false, and nothing changes, exactly when the
+    /// same handler listens for the same event at the same target already.
     ///
-    /// `Limit` exactly where it doesn't and `most` are held; else `Memory` where there is none; never `Taken`. Fewer than
-    /// 2^64 - 1 serial numbers were given.
+    /// `Limit` exactly when it doesn't and `most` are held; otherwise `Memory` if an allocation fails; never `Taken`.
+    /// Requires that fewer than 2^64 - 1 serial numbers have been given out.
     pub fn add(
         &mut self,
         target: EventTarget,
@@ -107,8 +107,8 @@ impl Listeners {
         }
     }
 
-    /// Removes the listener of a handler for an event at a target (DOM, 2.7: remove an event listener). The answer is
-    /// false, and nothing changes, exactly where there is none.
+    /// Removes the listener of a handler for an event at a target (DOM, 2.7: remove an event listener). Returns false, and
+    /// changes nothing, exactly when there is none.
     pub fn remove(&mut self, target: EventTarget, kind: EventKind, handler: HandlerId) -> bool
         ensures answer { result ≡ is_listening (seen_target target) kind handler.0 self.old.part }
         ensures removed { self.new ≡ record self.old { part = without_listener (seen_target target) kind handler.0 (self.old.part) } }
@@ -129,8 +129,8 @@ impl Listeners {
         Ok(Dispatch { left })
     }
 
-    /// The handler of the first copied listener that still stands; it and those before it leave the dispatch. None exactly
-    /// where none of those that are left still stands: one that was removed and made anew is another.
+    /// The handler of the first copied listener that still stands; it and those before it leave the dispatch. `None` exactly
+    /// when none of those that are left still stands: one that was removed and made anew is another.
     pub fn next(&self, dispatch: &mut Dispatch) -> Option<HandlerId>
         ensures value { option_map (λ handler. handler.0) result ≡ option_map (λ (it : ModelListener). it.handler) (find (λ it. listener_stands it self.now.part) dispatch.old) }
         ensures left { dispatch.new ≡ behind_first (λ it. listener_stands it self.now.part) dispatch.old }
@@ -172,7 +172,7 @@ fn copies(
     Ok(left)
 }
 
-/// Listeners that were copied as an event reached its target, and weren't called yet. A clause sees them as a list of
+/// Listeners that were copied as an event reached its target, and weren't called yet. Contracts see them as a list of
 /// listeners.
 #[derive(Drop)]
 pub struct Dispatch {

@@ -12,7 +12,7 @@ use std::alloc::Global;
 use std::collections::VecDeque;
 use std::marker::Model;
 
-/// The tasks of a page that wait, in order of queueing. A clause sees them as the definitions of a world do, with how many
+/// The tasks of a page that wait, in order of queueing. Contracts see them as the definitions of a world do, with how many
 /// posted ones may wait.
 #[derive(Drop)]
 pub struct Tasks {
@@ -37,7 +37,7 @@ impl Model for Tasks {
 }
 
 impl Tasks {
-    /// No tasks, which take no memory yet. At most `most` posted tasks can wait.
+    /// Creates an empty set of tasks; allocates nothing. At most `most` posted tasks can wait.
     pub fn new(alloc: Global, most: u32) -> Tasks
         ensures { result ≡ record { part = []; most = most } }
     {
@@ -57,7 +57,8 @@ impl Tasks {
 
     /// Queues a task, last.
     ///
-    /// `Limit` exactly for a posted task where `most` posted tasks wait; else `Memory` where there is none; never `Taken`.
+    /// `Limit` exactly for a posted task where `most` posted tasks wait; otherwise `Memory` if an allocation fails; never
+    /// `Taken`.
     pub fn push(&mut self, task: Task) -> Result<(), TableFault>
         ensures answer { Queues result (may_queue (seen_task task) self.old) }
         ensures queued { OnOk result (self.new ≡ record self.old { part = with_task (seen_task task) (self.old.part) }) }
@@ -76,7 +77,7 @@ impl Tasks {
         Ok(())
     }
 
-    /// Takes the first task off. None exactly where no task waits.
+    /// Takes the first task off. `None` exactly when no task waits.
     pub fn pop(&mut self) -> Option<Task>
         ensures value { option_map seen_task result ≡ first_of self.old.part }
         ensures left { self.new ≡ record self.old { part = others_of (self.old.part) } }

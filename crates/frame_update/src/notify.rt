@@ -35,7 +35,7 @@ fn notify_watcher<K: Sink, L: Ledger>(
 }
 
 /// A notify task that was taken off: nothing where its document isn't Active; else its flag is cleared, and each of its
-/// observers takes its queue and is called with the entries, in order of making (Intersection Observer, 3.2.4).
+/// observers takes its queue and is called with the entries, in creation order (Intersection Observer, 3.2.4).
 pub(crate) fn notify<K: Sink, L: Ledger>(
     run: &mut Run<'_, K, L>,
     document: DocumentId,

@@ -91,10 +91,10 @@ fn refuse<K: Sink>(
 /// (HTML, event loops).
 ///
 /// In each of its resize loops a round is deeper than the one before, unless a command of that round takes an inclusive ancestor
-/// of what was gathered in it out of its parent; with m such commands, and H the greatest depth of a target that it delivers, a loop
-/// has at most (m + 1) * H rounds; and the error event is fired exactly where the rounds ended with the document Active and a target
-/// whose size differs from its last reported one (Resize Observer, 3.4). These loops are those that write its lines of rounds and of
-/// loop errors (law `all_loops_are_listed` of `loop_laws`, clause `items`).
+/// of what was gathered in it out of its parent; with m such commands, and H the greatest depth of a target that it delivers,
+/// a loop has at most (m + 1) * H rounds; and the error event is fired exactly when the rounds ended with the document Active
+/// and a target whose size differs from its last reported one (Resize Observer, 3.4). These loops are those that write its
+/// lines of rounds and of loop errors (law `all_loops_are_listed` of `loop_laws`, clause `items`).
 ///
 /// # Errors
 /// - `Limit` only where a limit is met, where it never answers Ok; every line before the limit's own was written.

@@ -18,7 +18,7 @@ use step_count::Steps;
 ///
 /// # Errors
 ///
-/// Where there is no memory.
+/// If an allocation fails.
 pub fn hits<L: Ledger>(
     alloc: Global,
     page: &mut Page,

@@ -67,7 +67,7 @@ fn paint_down(
 ///
 /// # Errors
 ///
-/// Where there is no memory.
+/// If an allocation fails.
 pub fn paint_order(alloc: Global, page: &PageTree) -> Result<Vec<NodeId>, AllocError>
     ensures { IfOk result (λ painted. map number painted.items ≡ paint_order page.now.tree) }
 {

@@ -28,8 +28,9 @@ fn has_point(rect: Rect, at: Point) -> bool
     is_between(rect.left, rect.right, at.left) && is_between(rect.top, rect.bottom, at.top)
 }
 
-/// Whether a point of the top document's viewport hits an element by its place: its border box, each clip between it and that viewport,
-/// and the viewport hold the point, their left and top edges included and the right and bottom ones not. No memory.
+/// Whether a point of the top document's viewport hits an element by its place: its border box, each clip between it and that
+/// viewport, and the viewport hold the point, their left and top edges included and the right and bottom ones not. Doesn't
+/// allocate.
 ///
 /// Needs that the element has a box, so that its chain of containers leads to the viewport (`reaches`).
 pub fn shows_at<G: Geometry>(geometry: &G, node: NodeId, at: Point) -> bool

@@ -39,7 +39,7 @@ fn is_rooted_in(page: &PageTree, root: Root, document: DocumentId) -> bool
 }
 
 /// Whether an observer is looked at with a document, by its root alone: for which document it was made makes no difference.
-/// No memory.
+/// Doesn't allocate.
 pub(crate) fn is_looked_at(
     page: &PageTree,
     watchers: &Watchers,
@@ -58,7 +58,7 @@ pub(crate) fn is_looked_at(
 ///
 /// # Errors
 ///
-/// Where there is no memory.
+/// If an allocation fails.
 pub fn watchers_of(
     alloc: Global,
     page: &PageTree,

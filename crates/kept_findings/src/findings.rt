@@ -112,8 +112,8 @@ impl KeptFindings {
         Looks::new(self.alloc, &self.seen)
     }
 
-    /// Makes room for what is seen of a spot. Where memory is refused there may be room for more all the same; nothing else changes in
-    /// either case.
+    /// Makes room for what is seen of a spot. Where an allocation fails there may be room for more all the same; nothing else
+    /// changes in either case.
     pub fn add(&mut self, of: Container) -> Result<(), AllocError>
         ensures roomier { IsRoomier self.old self.new }
         ensures room { OnOk result (MayBeSeen self.new.seen self.new.clips of) }
@@ -148,7 +148,7 @@ impl KeptFindings {
         Ok(())
     }
 
-    /// Forgets a registration whose pair is kept. No memory.
+    /// Forgets a registration whose pair is kept. Doesn't allocate.
     pub fn forget(&mut self, registration: RegistrationId)
         requires { IsSome (pair_at self.old.clips registration.0) }
         ensures { self.new ≡ without_findings registration.0 self.old }
@@ -209,8 +209,9 @@ impl KeptFindings {
             .stale_registrations(&view, &mut self.clips, watchers, watcher, steps)
     }
 
-    /// Finds what there is to find of a registration's target, once each spot of its chain was seen, and keeps it (`Index::recompute`), as its
-    /// observer sees the scene through its scroll margins. It takes one step, and those of its clip where that doesn't stand. No memory.
+    /// Finds what there is to find of a registration's target, once each spot of its chain was seen, and keeps it
+    /// (`Index::recompute`), as its observer sees the scene through its scroll margins. It takes one step, and those of its
+    /// clip where that doesn't stand. Doesn't allocate.
     pub fn recompute<S: Scene + Scrolls, L: Ledger>(
         &mut self,
         scene: &S,
@@ -255,7 +256,7 @@ impl KeptFindings {
             .recompute(&view, &mut self.clips, watchers, registration, steps)
     }
 
-    /// Lets a registration count as never computed. No memory.
+    /// Lets a registration count as never computed. Doesn't allocate.
     pub fn expire(&mut self, registration: RegistrationId)
         requires { IsTrue (contains_key self.old.kept registration.0) }
         ensures { self.new ≡ with_expired registration.0 self.old }

@@ -1,5 +1,5 @@
-//! What becomes of registrations that are kept, and of the steps that their clips take: each law is the clause of a function that does
-//! nothing.
+//! What becomes of registrations that are kept, and of the steps that their clips take: each law is stated as the contract of
+//! an empty function.
 
 ghost use Rattle.std.specs.Prelude.{◌≡◌, ◌<◌, ◌≤◌, ◌+◌, ℕ, Bool, List, [], Option, Some, false, length, sum_by};
 ghost use Rattle.std.specs.List.{AllByRecursion};

@@ -114,8 +114,8 @@ impl KeptFindings {
     }
 
     /// Looks at each spot on the chains of an observer's registrations that wasn't looked at yet, both ends included: it is touched where
-    /// its container, clip or box differs from what was seen last, or whether it is a scroll container, or nothing was seen of it, and what is
-    /// seen now is kept. No memory.
+    /// its container, clip or box differs from what was seen last, or whether it is a scroll container, or nothing was seen
+    /// of it, and what is seen now is kept. Doesn't allocate.
     ///
     /// A chain is walked by what was seen of its spots, so that a container is asked for once for each spot.
     pub fn look<S: Scene + Scrolls>(

@@ -27,8 +27,9 @@ pub struct KeptMeasures<'a, P: Styled> {
 }
 
 impl Kept {
-    /// What is measured of the boxes that are kept for a tree, for `flat_place` and `reach` of `positioned_layout`. Exact if each box in a
-    /// viewport is up to date (`refresh`); for the place of a node it is enough that its own box and those of its ancestors are. No memory.
+    /// What is measured of the boxes that are kept for a tree, for `flat_place` and `reach` of `positioned_layout`. Exact if
+    /// each box in a viewport is up to date (`refresh`); for the place of a node it is enough that its own box and those of
+    /// its ancestors are. Doesn't allocate.
     pub fn measures<'a, P: Styled>(&'a self, tree: &'a Tree<P>) -> KeptMeasures<'a, P>
         ensures tree { result.tree.now ≡ tree.now }
         ensures kept { result.kept.now ≡ self.now }

@@ -48,7 +48,7 @@ fn root_up(page: &PageTree, document: DocumentId, high: u32) -> Option<NodeId>
     }
 }
 
-/// The root element that a document shows: none where it isn't Active or its frame has no box. No memory.
+/// The root element that a document shows: none where it isn't Active or its frame has no box. Doesn't allocate.
 ///
 /// It calls itself once for each frame around the document.
 pub fn shown_root(page: &PageTree, document: DocumentId) -> Option<NodeId>
@@ -57,7 +57,7 @@ pub fn shown_root(page: &PageTree, document: DocumentId) -> Option<NodeId>
     root_up(page, document, LEVELS)
 }
 
-/// Whether an element has a box where its document shows this root element (`has_box`). No memory.
+/// Whether an element has a box where its document shows this root element (`has_box`). Doesn't allocate.
 pub fn has_box_below(page: &PageTree, root: Option<NodeId>, node: NodeId) -> bool
     ensures { (screen : WorldScreen) → option_map number root ≡ (view_at page.now.tree screen node.0).root → result ≡ has_box page.now.tree screen node.0 }
 {
@@ -67,8 +67,8 @@ pub fn has_box_below(page: &PageTree, root: Option<NodeId>, node: NodeId) -> boo
     is_boxed(page.tree(), root, node)
 }
 
-/// Whether an element has a box (CSS 2.2, 9.2.4): it stands in the tree of an Active document, that is `top` or its frame has a
-/// box, neither the element nor an ancestor has `display: none`, and each proper ancestor is a block. No memory.
+/// Whether an element has a box (CSS 2.2, 9.2.4): it stands in the tree of an Active document, that is `top` or its frame has
+/// a box, neither the element nor an ancestor has `display: none`, and each proper ancestor is a block. Doesn't allocate.
 pub fn has_box(page: &PageTree, node: NodeId) -> bool
     ensures { (screen : WorldScreen) → result ≡ has_box page.now.tree screen node.0 }
 {
@@ -76,8 +76,8 @@ pub fn has_box(page: &PageTree, node: NodeId) -> bool
     has_box_below(page, root, node)
 }
 
-/// The box of an element where its document shows this root element, none where it has none. Exact as long as the boxes of its document are
-/// up to date (`refresh_in`). No memory.
+/// The box of an element where its document shows this root element, none where it has none. Exact as long as the boxes of
+/// its document are up to date (`refresh_in`). Doesn't allocate.
 pub fn box_below(page: &PageTree, boxes: &Kept, root: Option<NodeId>, node: NodeId) -> Option<BoxOf>
     ensures { (screen : WorldScreen) → option_map number root ≡ (view_at page.now.tree screen node.0).root →
         IsFreshIn page.now.tree screen boxes.now (element_at page.now.tree node.0).document → result ≡ box_of page.now.tree screen node.0 }
@@ -128,8 +128,8 @@ pub struct ShownRoot {
 }
 
 /// The size of a document's viewport (CSSOM View, 4: `innerWidth`, `innerHeight`): for `top` that of its screen, and for another document
-/// the content box of its frame, 0 by 0 where that has no box. Exact as long as the boxes of the document around it are up to date with
-/// this screen (`refresh_in`). No memory.
+/// the content box of its frame, 0 by 0 where that has no box. Exact as long as the boxes of the document around it are up to
+/// date with this screen (`refresh_in`). Doesn't allocate.
 pub fn viewport_of(page: &PageTree, boxes: &Kept, screen: Screen, document: DocumentId) -> Size
     requires { IsScreen screen }
     ensures value { IsFreshAbove page.now.tree (seen_screen screen) boxes.now document.0 →

@@ -25,7 +25,7 @@ use std::alloc::{AllocError, Global};
 ///
 /// # Errors
 ///
-/// Where there is no memory.
+/// If an allocation fails.
 pub fn boxed_offsets<P: Styled>(
     alloc: Global,
     tree: &Tree<P>,

@@ -35,7 +35,7 @@ const FARTHEST: Size = Size {
     height: 2_147_483_647,
 };
 
-/// Whether the stored position of a target is the start, where nothing is scrolled whatever its range. No memory.
+/// Whether the stored position of a target is the start, where nothing is scrolled whatever its range. Doesn't allocate.
 pub fn is_at_start(scrolls: &Scrolls, target: Container) -> bool
     ensures start { result ≡ true → position_of (seen_container target) scrolls.now ≡ no_extent }
     ensures moved { position_of (seen_container target) scrolls.now ≡ no_extent → result ≡ true }
@@ -59,8 +59,8 @@ fn stored_within(scrolls: &Scrolls, target: Container, least: Size) -> Option<Po
 }
 
 /// The scroll offset in force of a node that has a box (CSSOM View, 6: `scrollTop`): on each axis the lesser of the stored position and of
-/// how far it can be scrolled. Exact as long as the boxes in its view are up to date (`refresh_in`) and no length of the view is above the
-/// largest one. No memory.
+/// how far it can be scrolled. Exact as long as the boxes in its view are up to date (`refresh_in`) and no length of the view
+/// is above the largest one. Doesn't allocate.
 pub fn boxed_offset<P: Styled>(
     tree: &Tree<P>,
     boxes: &Kept,
@@ -86,8 +86,8 @@ pub fn boxed_offset<P: Styled>(
     }
 }
 
-/// The scroll offset in force of the viewport in which a root element is shown (CSSOM View, 4: `scrollY`). Exact as long as the boxes in
-/// its view are up to date (`refresh_in`). No memory.
+/// The scroll offset in force of the viewport in which a root element is shown (CSSOM View, 4: `scrollY`). Exact as long as
+/// the boxes in its view are up to date (`refresh_in`). Doesn't allocate.
 pub fn shown_offset<P: Styled>(
     tree: &Tree<P>,
     boxes: &Kept,

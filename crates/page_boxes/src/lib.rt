@@ -3,8 +3,8 @@
 //! lengths are in units of 1/64 CSS pixel.
 //!
 //! The boxes are kept beside the page in a `Kept`, which gets a slot for each element as it is made, and marks where the page
-//! changes. `refresh` computes what is due in all documents, `refresh_in` in one and those around it, and `refresh_for` what one
-//! reading rests on; a reading makes no box and takes no memory. The stored scroll positions are handed in.
+//! changes. `refresh` computes what is due in all documents, `refresh_in` in one and those around it, and `refresh_for` what
+//! one reading rests on; a reading makes no box and takes no memory. The stored scroll positions are supplied by the caller.
 #![tactic(auto)]
 
 mod climb;

@@ -129,8 +129,8 @@ fn view_shift(view: Point, on_screen: bool) -> Shift
 }
 
 /// The place of the border box of a node that has a box, in its document's viewport that is scrolled so far (CSSOM View, 6:
-/// `getBoundingClientRect`). Exact as long as the boxes in its view are up to date (`refresh_in`) and no length of the view is above the
-/// largest one. No memory.
+/// `getBoundingClientRect`). Exact as long as the boxes in its view are up to date (`refresh_in`) and no length of the view
+/// is above the largest one. Doesn't allocate.
 ///
 /// It goes up by the boxes of the node, its ancestors and those that hold it alone, with the heights that are kept above each; what is
 /// scrolled on the way is measured where its offset wasn't found before (`boxed_offsets`).

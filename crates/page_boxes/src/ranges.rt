@@ -57,8 +57,8 @@ pub(crate) fn range_between(reach: Size, shown: Size) -> Size
 }
 
 /// The scrolling range of a node that has a box (CSS Overflow 3, 2.2; CSSOM View: scrolling area): how far its content reaches beyond its
-/// padding box, 0 by 0 where it isn't a scroll container. Exact as long as the boxes in its view are up to date (`refresh_in`) and no
-/// length of the view is above the largest one. No memory.
+/// padding box, 0 by 0 where it isn't a scroll container. Exact as long as the boxes in its view are up to date
+/// (`refresh_in`) and no length of the view is above the largest one. Doesn't allocate.
 ///
 /// It calls itself once a level of the tree below.
 pub fn boxed_range<P: Styled>(tree: &Tree<P>, boxes: &Kept, node: NodeId) -> Size
@@ -78,8 +78,8 @@ pub fn boxed_range<P: Styled>(tree: &Tree<P>, boxes: &Kept, node: NodeId) -> Siz
     range_between(reach, own.padding_size())
 }
 
-/// The scrolling range of the viewport in which a root element is shown (CSSOM View: scrolling area): how far the content reaches beyond
-/// the viewport. Exact as long as the boxes in its view are up to date (`refresh_in`). No memory.
+/// The scrolling range of the viewport in which a root element is shown (CSSOM View: scrolling area): how far the content
+/// reaches beyond the viewport. Exact as long as the boxes in its view are up to date (`refresh_in`). Doesn't allocate.
 ///
 /// It calls itself once a level of the tree below.
 pub fn shown_range<P: Styled>(tree: &Tree<P>, boxes: &Kept, shown: ShownRoot) -> Size

@@ -27,8 +27,8 @@ use smallvec::SmallVec;
 use std::alloc::{AllocError, Global};
 use std::marker::Model;
 
-/// The documents of a page by number, from 0 in order of making: `top` is number 0, and each other one belongs to a frame.
-/// A clause sees them as the definitions of a world do.
+/// The documents of a page by number, from 0 in creation order: `top` is number 0, and each other one belongs to a frame.
+/// Contracts see them as the definitions of a world do.
 ///
 /// A frame's document, a frame or a root element that isn't there counts as none.
 #[derive(Drop)]
@@ -54,7 +54,7 @@ impl Documents {
     ///
     /// # Errors
     ///
-    /// Where there is no memory.
+    /// If an allocation fails.
     pub fn new(alloc: Global, most: u32) -> Result<Documents, AllocError>
         requires least { 1 ≤ most }
         requires bounded { most ≤ 64 }
@@ -72,8 +72,8 @@ impl Documents {
         self.count() >= self.most
     }
 
-    /// Makes a Fresh document for a frame, and gives its name, whose number is `count` before (HTML, 7.3: content navigables). It
-    /// takes no memory. There has to be room for it, as `is_full` tells.
+    /// Makes a Fresh document for a frame, and gives its name, whose number is `count` before (HTML, 7.3: content
+    /// navigables). It doesn't allocate. There has to be room for it, as `is_full` tells.
     pub fn make(&mut self, frame: NodeId) -> DocumentId
         requires { has_room self.old ≡ true }
         ensures number { result.0 ≡ length self.old.held }
@@ -169,7 +169,7 @@ impl Documents {
     ///
     /// # Errors
     ///
-    /// Where there is no memory.
+    /// If an allocation fails.
     pub fn active<P: Owned>(&self, tree: &Tree<P>) -> Result<Vec<DocumentId>, AllocError>
         ensures { IfOk result (λ found. document_numbers found.items ≡ active_documents (seen_tree P.carried tree.now self.now.held)) }
     {
@@ -185,7 +185,7 @@ impl Documents {
         Ok(found.into_documents())
     }
 
-    /// The documents from `top` to this one, each the one that holds the frame of the next. It takes no memory.
+    /// The documents from `top` to this one, each the one that holds the frame of the next. It doesn't allocate.
     pub fn path<P: Owned>(&self, tree: &Tree<P>, document: DocumentId) -> SmallVec<DocumentId, 64>
         requires { document.0 < length self.now.held }
         ensures path { document_numbers result.items ≡ path_to (seen_tree P.carried tree.now self.now.held) document.0 }

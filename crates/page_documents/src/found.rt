@@ -66,7 +66,7 @@ impl Finder for Listed {
     }
 }
 
-// The documents that are come to, in whatever order. It takes no memory.
+// The documents that are come to, in whatever order. It doesn't allocate.
 #[derive(Drop)]
 pub(crate) struct Marks {
     marks: [bool; MOST_DOCUMENTS],

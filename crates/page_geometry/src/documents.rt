@@ -16,7 +16,7 @@ pub(crate) struct FoundDocument {
     pub(crate) origin: Option<Point>,
 }
 
-// None for a document that wasn't looked at. It takes no memory.
+// None for a document that wasn't looked at. It doesn't allocate.
 #[derive(Drop)]
 pub(crate) struct FoundDocuments {
     documents: [Option<FoundDocument>; MOST_DOCUMENTS],

@@ -84,8 +84,8 @@ impl<'a> Shown<'a> {
         }
     }
 
-    /// The same, for the sizes of many elements: what each document shows, and how large its viewport is, is found here once, and not by a
-    /// climb from frame to frame for each element. No memory.
+    /// The same, for the sizes of many elements: what each document shows, and how large its viewport is, is found here once,
+    /// and not by a climb from frame to frame for each element. Doesn't allocate.
     pub fn with_views(self) -> Shown<'a>
         ensures { result ≡ self.entry }
     {

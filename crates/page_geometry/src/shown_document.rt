@@ -117,8 +117,9 @@ impl<'a> ShownDocument<'a> {
         }
     }
 
-    /// The same, for a reading of many elements: how far the viewport is scrolled is found here once, and not for each element. It is
-    /// measured where the stored position isn't the start and lies farther than the root element reaches. No memory.
+    /// The same, for a reading of many elements: how far the viewport is scrolled is found here once, and not for each
+    /// element. It is measured where the stored position isn't the start and lies farther than the root element reaches.
+    /// Doesn't allocate.
     pub fn with_offset(self) -> ShownDocument<'a>
         ensures { result ≡ self.entry }
     {

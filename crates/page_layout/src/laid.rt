@@ -63,7 +63,7 @@ impl LaidTree {
     ///
     /// # Errors
     ///
-    /// Where there is no memory.
+    /// If an allocation fails.
     pub fn new(alloc: Global, version: Version) -> Result<LaidTree, AllocError>
         ensures version { IfOk result (λ laid. laid.elements.version ≡ version) }
         ensures tree { IfOk result (λ laid. laid.elements.tree ≡ (opening_world version).tree) }
@@ -101,7 +101,8 @@ impl LaidTree {
 
     /// Makes room for one element and its box, and tells the number that the next `make` or `make_frame` gives it.
     ///
-    /// That call doesn't answer `Memory`. `Limit` comes exactly where the page is full; else `Memory` where there is none. Besides the room nothing changes.
+    /// That call doesn't answer `Memory`. `Limit` comes exactly when the page is full; otherwise `Memory` if an allocation
+    /// fails. Besides the room nothing changes.
     pub fn reserve(&mut self) -> Result<NodeId, MakeFault>
         ensures node { IfOk result (λ node. node.0 ≡ length self.old.elements.tree.elements) }
         ensures roomy { OnOk result (element_room self.old.elements ≡ Did tt) }
@@ -120,8 +121,8 @@ impl LaidTree {
 
     /// Makes an element with this name and kind, in a document and standing nowhere, and gives its number. It has no style set.
     ///
-    /// `Limit` comes exactly where the page is full; else `Memory` where there is none, which isn't after
-    /// `reserve`. Nothing is changed then but that room may have been made.
+    /// `Limit` comes exactly when the page is full; otherwise `Memory` if an allocation fails, which isn't after `reserve`.
+    /// Nothing is changed then but that room may have been made.
     pub fn make(
         &mut self,
         document: DocumentId,
@@ -150,8 +151,9 @@ impl LaidTree {
     /// Makes a frame with this name, in a document and standing nowhere, and the Fresh document in it, which has no root element
     /// (HTML, 4.8.5 and 7.3), and gives both names. The frame has no style set.
     ///
-    /// `Limit(Nodes)` comes exactly where the page is full, then `Limit(Documents)` where 64 documents were made; else
-    /// `Memory` where there is none, which isn't after `reserve`. Nothing is changed then but that room may have been made.
+    /// `Limit(Nodes)` comes exactly when the page is full, then `Limit(Documents)` where 64 documents were made; otherwise
+    /// `Memory` if an allocation fails, which isn't after `reserve`. Nothing is changed then but that room may have been
+    /// made.
     pub fn make_frame(
         &mut self,
         document: DocumentId,
@@ -187,8 +189,8 @@ impl LaidTree {
     /// to stand.
     ///
     /// Refused, with nothing changed, by HierarchyRequestError where it would stand in itself, then by NotFoundError
-    /// where the sibling isn't a child there, then by HierarchyRequestError where the document has its root element,
-    /// then by `Limit` where an element would stand deeper than 256. No memory.
+    /// where the sibling isn't a child there, then by HierarchyRequestError where the document has its root element, then by
+    /// `Limit` where an element would stand deeper than 256. Doesn't allocate.
     pub fn place(
         &mut self,
         container: Container,
@@ -218,8 +220,8 @@ impl LaidTree {
         Ok(())
     }
 
-    /// Takes an element, with its subtree, out of its parent's children, or as root element out of its document (DOM,
-    /// 4.2.3 remove), as `PageTree::remove` does, and marks where it stood. No memory.
+    /// Takes an element, with its subtree, out of its parent's children, or as root element out of its document (DOM, 4.2.3
+    /// remove), as `PageTree::remove` does, and marks where it stood. Doesn't allocate.
     pub fn remove(&mut self, node: NodeId)
         requires { node.0 < length self.old.elements.tree.elements }
         ensures done { self.new.elements.tree ≡ removed (self.old.elements.tree) node.0 }
@@ -250,7 +252,7 @@ impl LaidTree {
     /// Adds so many units of 1/64 pixel to an element's width or height, which stays between 0 and 1,000,000 pixels, and marks the
     /// element.
     ///
-    /// TypeError comes exactly where that property isn't in pixels. Nothing is changed then.
+    /// TypeError comes exactly when that property isn't in pixels. Nothing is changed then.
     pub fn grow(&mut self, node: NodeId, axis: Axis, by: Px) -> Result<(), ThrowKind>
         requires { node.0 < length self.old.elements.tree.elements }
         ensures done { OnOk result (growing (seen_axis axis) node.0 by.0 (self.old.elements.tree) ≡ Did (self.new.elements.tree)) }
@@ -268,7 +270,7 @@ impl LaidTree {
 
     /// Sets the natural size of an image, in units of 1/64 pixel, and marks the image.
     ///
-    /// TypeError comes exactly where the element is no image. Nothing is changed then.
+    /// TypeError comes exactly when the element is no image. Nothing is changed then.
     pub fn load(&mut self, node: NodeId, size: Size) -> Result<(), ThrowKind>
         requires node { node.0 < length self.old.elements.tree.elements }
         requires size { IsNatural size }

@@ -27,7 +27,7 @@ pub enum PageFault {
     /// A limit is met.
     #[error("the limit of {} is met", .0.text())]
     Limit(LimitKind),
-    /// There is no memory.
+    /// Out of memory.
     #[error("out of memory")]
     Memory,
 }

@@ -25,11 +25,11 @@ use step_count::Steps;
 use text_io::ThrowKind;
 
 impl Page {
-    /// Whether a condition holds, for the target of the present entry if there is one; `seen` tells whether that entry of
-    /// an intersection observer is intersecting, and is none for another one. The world and what was begun are as before. No memory.
+    /// Whether a condition holds, for the target of the present entry if there is one; `seen` tells whether that entry of an
+    /// intersection observer is intersecting, and is none for another one. The world and what was begun are as before.
+    /// Doesn't allocate.
     ///
-    /// # Errors
-    /// An exception exactly where the definition says so.
+    /// # Errors An exception exactly when the definition says so.
     #[tactic(auto, unfolding(page_model::specs::Commands::holds))]
     pub fn holds<L: Ledger>(
         &mut self,

@@ -76,7 +76,7 @@ pub struct Page {
     pub(crate) laid: LaidTree,
     pub(crate) observers: Observers,
     pub(crate) watchers: Watchers,
-    // The scroll margins of each, in order of making.
+    // The scroll margins of each, in creation order.
     pub(crate) scroll_margins: Vec<Margins>,
     // What was found of their registrations last, and what was seen for it.
     pub(crate) findings: KeptFindings,
@@ -154,8 +154,8 @@ impl Page {
 
     /// Counts a command, which may then be applied.
     ///
-    /// # Errors
-    /// `Limit(Commands)` exactly where as many were begun as the page's version allows. Nothing is changed then. No memory.
+    /// # Errors `Limit(Commands)` exactly when as many were begun as the page's version allows. Nothing is changed then.
+    /// Doesn't allocate.
     #[tactic(auto, unfolding(page_model::specs::Commands::begun_in))]
     pub fn begin_command(&mut self) -> Result<(), PageFault>
         ensures counted { Moved result self.old.world self.new.world (begun_in self.old.world) }
@@ -175,8 +175,8 @@ impl Page {
 
     /// Sets the clock, in milliseconds, to a time of at most 1,000,000,000,000.
     ///
-    /// # Errors
-    /// `Throw(RangeError)` exactly where the time is less than the clock's. Nothing is changed then. No memory.
+    /// # Errors `Throw(RangeError)` exactly when the time is less than the clock's. Nothing is changed then. Doesn't
+    /// allocate.
     pub fn set_time(&mut self, time: u64) -> Result<(), PageFault>
         requires { IsTime time }
         ensures set { Moved result self.old.world self.new.world (time_set time self.old.world) }
@@ -196,8 +196,7 @@ impl Page {
     /// Applies a command that was begun: what it does is in the definition of commands, for the target of the present
     /// entry if there is one.
     ///
-    /// # Errors
-    /// `Throw` and `Limit` exactly where the definition says so, and `Memory`. The world is then as it was.
+    /// # Errors `Throw` and `Limit` exactly when the definition says so, and `Memory`. The world is then as it was.
     pub fn apply<L: Ledger>(
         &mut self,
         script: &Script,
@@ -318,14 +317,15 @@ impl Page {
         }
     }
 
-    /// The version of the script that the page is for. No memory.
+    /// The version of the script that the page is for. Doesn't allocate.
     pub fn version(&self) -> Version
         ensures { result ≡ self.now.world.version }
     {
         self.version
     }
 
-    /// How many device pixels a CSS pixel of the screen is, in hundredths of a percent (CSSOM View, 4: `devicePixelRatio`). No memory.
+    /// How many device pixels a CSS pixel of the screen is, in hundredths of a percent (CSSOM View, 4: `devicePixelRatio`).
+    /// Doesn't allocate.
     pub fn ratio(&self) -> Percent
         ensures value { unsigned_abs result.0 ≡ self.now.world.viewports.screen.ratio }
         ensures range { IsHundredths result.0 }
@@ -333,8 +333,8 @@ impl Page {
         self.screen.ratio
     }
 
-    /// Computes the boxes that are due: each box of the page is then held as it is now, and none is due. It takes at most one step
-    /// for each box that was due. The world and what was begun are as before. No memory.
+    /// Computes the boxes that are due: each box of the page is then held as it is now, and none is due. It takes at most one
+    /// step for each box that was due. The world and what was begun are as before. Doesn't allocate.
     pub fn refresh_boxes<L: Ledger>(&mut self, steps: &mut Steps<L>)
         ensures same { self.new ≡ record self.old { kept = self.new.kept } }
         ensures done { (n : ℕ) → is_due self.new.world.tree self.new.world.viewports.screen self.new.kept n ≡ false }
@@ -371,8 +371,8 @@ impl Page {
         &self.findings
     }
 
-    /// What is shown of the page as it is now: boxes, places, containers and clips (Intersection Observer, 3.2.7), in units of 1/64
-    /// pixel. No box may be due; `refresh_boxes` sees to that. No memory.
+    /// What is shown of the page as it is now: boxes, places, containers and clips (Intersection Observer, 3.2.7), in units
+    /// of 1/64 pixel. No box may be due; `refresh_boxes` sees to that. Doesn't allocate.
     pub fn geometry(&self) -> Shown<'_>
         requires { (n : ℕ) → is_due self.now.world.tree self.now.world.viewports.screen self.now.kept n ≡ false }
         ensures { result ≡ shown_of self.now.world }

@@ -120,8 +120,8 @@ impl Page {
     }
 
     /// Evaluates the query lists of a document from a place on, counted over the lists of all documents, up to the first
-    /// whose state is another than at its last evaluation or creation, which then has that state (CSSOM View, 4.2:
-    /// evaluate media queries and report changes). None exactly where there is none. No memory.
+    /// whose state is another than at its last evaluation or creation, which then has that state (CSSOM View, 4.2: evaluate
+    /// media queries and report changes). `None` exactly when there is none. Doesn't allocate.
     pub fn next_change<L: Ledger>(
         &mut self,
         document: DocumentId,

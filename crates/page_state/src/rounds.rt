@@ -20,8 +20,8 @@ use std::sync::ledger::Ledger;
 use step_count::Steps;
 
 impl Page {
-    /// Gathers the active observations of a document at a depth (Resize Observer, 3.4: gather active observations at
-    /// depth), and answers how many there are. No memory.
+    /// Gathers the active observations of a document at a depth (Resize Observer, 3.4: gather active observations at depth),
+    /// and answers how many there are. Doesn't allocate.
     pub fn gather<L: Ledger>(
         &mut self,
         document: DocumentId,
@@ -39,8 +39,8 @@ impl Page {
     }
 
     /// The next delivery of a document (Resize Observer, 3.4: broadcast active observations, up to the callback): of its
-    /// observers from `place` on the first with something active, with an entry for each active observation, of sizes as
-    /// they are now, which become the last reported ones. None exactly where no observer is left that has something active.
+    /// observers from `place` on the first with something active, with an entry for each active observation, of sizes as they
+    /// are now, which become the last reported ones. `None` exactly when no observer is left that has something active.
     ///
     /// # Errors
     /// Want of memory; the world is then as it was.
@@ -66,7 +66,7 @@ impl Page {
         depth_gather::next_delivery(alloc, &mut self.observers, &sizes, document, place)
     }
 
-    /// The end of an observer's turn, once its callback was called: its active list is emptied. No memory.
+    /// The end of an observer's turn, once its callback was called: its active list is emptied. Doesn't allocate.
     pub fn end_delivery(&mut self, observer: ObserverId)
         requires { observer.0 < length self.old.world.resize_observers.made }
         ensures emptied { self.new ≡ record self.old { world = record (self.old.world) { resize_observers = without_active observer.0 (self.old.world.resize_observers) } } }
@@ -75,7 +75,7 @@ impl Page {
         depth_gather::end_delivery(&mut self.observers, observer);
     }
 
-    /// Whether something was skipped as a document's observations were last gathered. No memory.
+    /// Whether something was skipped as a document's observations were last gathered. Doesn't allocate.
     pub fn has_skipped(&self, document: DocumentId) -> bool
         ensures { result ≡ has_skipped document.0 self.now.world.resize_observers }
     {

@@ -45,7 +45,7 @@ impl Page {
     }
 
     /// Whether the size of a document's viewport isn't the one noted at the last call for this document; the size is then
-    /// noted (CSSOM View, 13: run the resize steps). The first call only notes it. No memory.
+    /// noted (CSSOM View, 13: run the resize steps). The first call only notes it. Doesn't allocate.
     pub fn viewport_changed<L: Ledger>(
         &mut self,
         document: DocumentId,
@@ -127,9 +127,10 @@ impl Page {
         Ok(())
     }
 
-    /// The observers that a notify task of a document goes over, in order of making: those whose root is the document or
-    /// stands in it now (Intersection Observer, 3.2.4: notify intersection observers). Its flag is cleared: so a page that was ready for a
-    /// tick stays so where a notify task of the document was taken off just before (`pop_task`), and needn't where one still waits.
+    /// The observers that a notify task of a document goes over, in creation order: those whose root is the document or
+    /// stands in it now (Intersection Observer, 3.2.4: notify intersection observers). Its flag is cleared: so a page that
+    /// was ready for a tick stays so where a notify task of the document was taken off just before (`pop_task`), and needn't
+    /// where one still waits.
     ///
     /// # Errors
     /// Want of memory; nothing is changed then.
@@ -147,7 +148,7 @@ impl Page {
     }
 
     /// Hands the queue of an intersection observer out, and leaves it empty. The entries are of elements that there are, and
-    /// their lines can be written. No memory.
+    /// their lines can be written. Doesn't allocate.
     pub fn take_records(&mut self, watcher: WatcherId) -> EntryList
         requires { watcher.0 < length self.old.world.intersection_observers.made }
         ensures value { result ≡ (intersection_observer_at self.old.world.intersection_observers watcher.0).queue }

@@ -1,4 +1,4 @@
-//! Why a call is refused. A refused call changes nothing.
+//! Why a call is refused. A call that fails changes nothing.
 
 use text_io::{LimitKind, ThrowKind};
 use thiserror::Error;
@@ -20,7 +20,7 @@ pub enum MakeFault {
     /// As many elements, or documents, as a page may have were made.
     #[error("the limit of {} is met", .0.text())]
     Limit(LimitKind),
-    /// There is no memory.
+    /// Out of memory.
     #[error("out of memory")]
     Memory,
 }

@@ -41,8 +41,8 @@ const MOST_DEPTH: u32 = 256;
 /// The greatest length of a style, in units of 1/64 pixel: 1,000,000 pixels.
 const MOST_UNITS: i64 = 64_000_000;
 
-/// The elements and documents of a page, within the limits of a version of the script language. A contract sees them as the lists of
-/// a world (`specs/Views.antt`). Both are numbered from 0 in order of making, and stay for good; `top` is document 0.
+/// The elements and documents of a page, within the limits of a version of the script language. A contract sees them as the
+/// lists of a world (`specs/Views.antt`). Both are numbered from 0 in creation order, and stay for good; `top` is document 0.
 #[derive(Drop)]
 pub struct PageTree {
     version: Version,
@@ -65,7 +65,7 @@ impl PageTree {
     ///
     /// # Errors
     ///
-    /// Where there is no memory.
+    /// If an allocation fails.
     pub fn new(alloc: Global, version: Version) -> Result<PageTree, AllocError>
         ensures version { IfOk result (λ page. page.version ≡ version) }
         ensures tree { IfOk result (λ page. page.tree ≡ (opening_world version).tree) }
@@ -95,7 +95,8 @@ impl PageTree {
 
     /// Makes room for one element, and tells the number that the next `make` or `make_frame` gives it.
     ///
-    /// That call doesn't answer `Memory`. `Limit` comes exactly where the page is full; else `Memory` where there is none. Besides the room nothing changes.
+    /// That call doesn't answer `Memory`. `Limit` comes exactly when the page is full; otherwise `Memory` if an allocation
+    /// fails. Besides the room nothing changes.
     pub fn reserve(&mut self) -> Result<NodeId, MakeFault>
         ensures node { IfOk result (λ node. node.0 ≡ length self.old.tree.elements) }
         ensures roomy { OnOk result (element_room self.old ≡ Did tt) }
@@ -112,8 +113,8 @@ impl PageTree {
 
     /// Makes an element with this name and kind, in a document and standing nowhere, and gives its number. It has no style set.
     ///
-    /// `Limit` comes exactly where the page is full; else `Memory` where there is none, which isn't after
-    /// `reserve`. Nothing is changed then but that room may have been made.
+    /// `Limit` comes exactly when the page is full; otherwise `Memory` if an allocation fails, which isn't after `reserve`.
+    /// Nothing is changed then but that room may have been made.
     pub fn make(
         &mut self,
         document: DocumentId,
@@ -147,8 +148,9 @@ impl PageTree {
     /// Makes a frame with this name, in a document and standing nowhere, and the Fresh document in it, which has no root element
     /// (HTML, 4.8.5 and 7.3), and gives both names. The frame has no style set.
     ///
-    /// `Limit(Nodes)` comes exactly where the page is full, then `Limit(Documents)` where 64 documents were made; else
-    /// `Memory` where there is none, which isn't after `reserve`. Nothing is changed then but that room may have been made.
+    /// `Limit(Nodes)` comes exactly when the page is full, then `Limit(Documents)` where 64 documents were made; otherwise
+    /// `Memory` if an allocation fails, which isn't after `reserve`. Nothing is changed then but that room may have been
+    /// made.
     pub fn make_frame(
         &mut self,
         document: DocumentId,
@@ -190,8 +192,8 @@ impl PageTree {
     /// where it stood in the tree of an Active document, and those that are Fresh become Active where it comes to stand in one.
     ///
     /// Refused, with nothing changed, by HierarchyRequestError where it would stand in itself, then by NotFoundError
-    /// where the sibling isn't a child there, then by HierarchyRequestError where the document has its root element,
-    /// then by `Limit` where an element would stand deeper than 256. No memory.
+    /// where the sibling isn't a child there, then by HierarchyRequestError where the document has its root element, then by
+    /// `Limit` where an element would stand deeper than 256. Doesn't allocate.
     pub fn place(
         &mut self,
         container: Container,
@@ -218,8 +220,8 @@ impl PageTree {
     }
 
     /// Takes an element, with its subtree, out of its parent's children, or as root element out of its document (DOM,
-    /// 4.2.3 remove). Where it stood in the tree of an Active document, the Active documents in frames of the subtree become Dead
-    /// for good, with those inside. Nothing where it stands nowhere. No memory.
+    /// 4.2.3 remove). Where it stood in the tree of an Active document, the Active documents in frames of the subtree become
+    /// Dead for good, with those inside. Nothing where it stands nowhere. Doesn't allocate.
     pub fn remove(&mut self, node: NodeId)
         requires { node.0 < length self.old.tree.elements }
         ensures done { self.new.tree ≡ removed (self.old.tree) node.0 }
@@ -249,7 +251,7 @@ impl PageTree {
 
     /// Adds so many units of 1/64 pixel to an element's width or height, which stays between 0 and 1,000,000 pixels.
     ///
-    /// TypeError comes exactly where that property isn't in pixels. Nothing is changed then.
+    /// TypeError comes exactly when that property isn't in pixels. Nothing is changed then.
     pub fn grow(&mut self, node: NodeId, axis: Axis, by: Px) -> Result<(), ThrowKind>
         requires { node.0 < length self.old.tree.elements }
         ensures done { OnOk result (growing (seen_axis axis) node.0 by.0 (self.old.tree) ≡ Did (self.new.tree)) }
@@ -269,7 +271,7 @@ impl PageTree {
 
     /// Sets the natural size of an image, in units of 1/64 pixel.
     ///
-    /// TypeError comes exactly where the element is no image. Nothing is changed then.
+    /// TypeError comes exactly when the element is no image. Nothing is changed then.
     pub fn load(&mut self, node: NodeId, size: Size) -> Result<(), ThrowKind>
         requires node { node.0 < length self.old.tree.elements }
         requires size { IsNatural size }

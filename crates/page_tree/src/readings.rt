@@ -71,7 +71,7 @@ impl PageTree {
     ///
     /// # Errors
     ///
-    /// Where there is no memory.
+    /// If an allocation fails.
     pub fn active_documents(&self) -> Result<Vec<DocumentId>, AllocError>
         ensures { IfOk result (λ found. document_numbers found.items ≡ active_documents (self.now.tree)) }
     {
@@ -101,7 +101,7 @@ impl PageTree {
         }
     }
 
-    /// The documents from `top` to this one, each the one that holds the frame of the next. It takes no memory.
+    /// The documents from `top` to this one, each the one that holds the frame of the next. It doesn't allocate.
     pub fn path(&self, document: DocumentId) -> SmallVec<DocumentId, 64>
         requires { document.0 < length self.now.tree.documents }
         ensures path { document_numbers result.items ≡ path_to (self.now.tree) document.0 }

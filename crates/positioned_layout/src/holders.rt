@@ -12,7 +12,7 @@ use crate::{Holder, Placed};
 use element_tree::{NodeId, Tree};
 use style_values::Position;
 
-/// How an element is positioned: a root element counts as static. No memory.
+/// How an element is positioned: a root element counts as static. Doesn't allocate.
 pub fn position<P: Placed>(tree: &Tree<P>, node: NodeId) -> Position
     requires { node.0 < length tree.now.nodes }
     ensures value { (at : ℕ → Node) → AreNodesOf P.placed tree.now.nodes at → seen_position result ≡ position_of (at node.0) }
@@ -64,8 +64,8 @@ fn held_by(element: Option<NodeId>) -> Holder
 }
 
 /// What holds a node's box: in flow its parent's box; for an absolute one that of its nearest positioned ancestor, or the page where
-/// there is none; for a fixed one the screen; for a root element, which counts as static, the page. An element that holds it is nearer
-/// to the root. No memory.
+/// there is none; for a fixed one the screen; for a root element, which counts as static, the page. An element that holds it
+/// is nearer to the root. Doesn't allocate.
 pub fn holder_of<P: Placed>(tree: &Tree<P>, node: NodeId) -> Holder
     requires { node.0 < length tree.now.nodes }
     ensures value { (at : ℕ → Node) → AreNodesOf P.placed tree.now.nodes at → seen_holder result ≡ holder at node.0 }

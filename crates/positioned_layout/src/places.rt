@@ -248,8 +248,8 @@ fn flat_along<P: Placed, M: Measures>(tree: &Tree<P>, measures: &M, node: NodeId
 
 /// The place of the border box of a node with a box in its document's viewport, each scroll offset taken as 0. In flow it is where the
 /// node's parent and its earlier siblings put it, for a relative box moved by its insets; out of flow it is by its insets from what holds
-/// it, and on an axis without an inset where it would be in the flow. Exact as long as `measures` is exact for the node and its ancestors.
-/// No memory.
+/// it, and on an axis without an inset where it would be in the flow. Exact as long as `measures` is exact for the node and
+/// its ancestors. Doesn't allocate.
 ///
 /// It goes outwards once for each axis, by the boxes of the node and of those that place it alone.
 pub fn flat_place<P: Placed, M: Measures>(tree: &Tree<P>, measures: &M, node: NodeId) -> Point

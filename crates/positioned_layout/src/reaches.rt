@@ -242,8 +242,8 @@ fn far_below<P: Placed, M: Measures>(
 
 /// How far something reaches: the scroll container `of`, from the corner of its padding box, over that box and the border boxes that it
 /// holds with no clipping box in between; for None the viewport of this size, over the boxes that the page holds so. `root` is the root
-/// element of the document. Scroll offsets count as 0, and each length is at most 2,147,483,647 units. Exact as long as `measures` is exact
-/// for all boxes of the document. No memory.
+/// element of the document. Scroll offsets count as 0, and each length is at most 2,147,483,647 units. Exact as long as
+/// `measures` is exact for all boxes of the document. Doesn't allocate.
 ///
 /// It calls itself once a level of the tree below.
 pub fn reach<P: Placed, M: Measures>(

@@ -84,8 +84,8 @@ fn run_script<K: Sink, L: Ledger>(
     }
 }
 
-/// Does with a script what is asked, and writes what is to be said of it. The page is handed out exactly where the script is run to its end
-/// for its trace or its summary.
+/// Does with a script what is asked, and writes what is to be said of it. The page is handed out exactly when the script is
+/// run to its end for its trace or its summary.
 ///
 /// - `Done`, `Limit`: exactly by the reply to the job and the script, and all of its text was written. No `Syntax`, `Differs`, `Usage` or
 ///   `ReadFault` comes.

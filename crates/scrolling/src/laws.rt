@@ -1,4 +1,4 @@
-//! What a scroll comes to, over all that can be kept: the clause of a function that does nothing.
+//! What a scroll comes to, over all that can be kept, stated as the contract of an empty function.
 
 ghost use Rattle.std.specs.Prelude.{◌≡◌, ℕ, ℤ};
 ghost use Rattle.page_model.specs.World.{Extent, Container, Scrolls};

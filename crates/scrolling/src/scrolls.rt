@@ -20,11 +20,11 @@ use px_units::{Point, Size};
 use std::alloc::{AllocError, Global};
 use std::marker::Model;
 
-/// The stored scroll positions of elements and documents, and for each document the targets whose scroll events are
-/// pending, in order and without doubles (CSSOM View, 4 to 6 and 13). A clause sees lists by number.
+/// The stored scroll positions of elements and documents, and for each document the targets whose scroll events are pending,
+/// in order and without doubles (CSSOM View, 4 to 6 and 13). Contracts see lists by number.
 ///
-/// A range that is handed in is what a target can be scrolled by now: how far its content reaches beyond its box or
-/// viewport, from 0 to 2,147,483,647 units on both axes. Ranges aren't kept, and layout changes nothing that is kept here.
+/// A range that is passed in is what a target can be scrolled by now: how far its content reaches beyond its box or viewport,
+/// from 0 to 2,147,483,647 units on both axes. Ranges aren't kept, and layout changes nothing that is kept here.
 #[derive(Drop)]
 pub struct Scrolls {
     elements: Vec<Position>,
@@ -197,7 +197,7 @@ impl Scrolls {
         Ok(Outcome::Moved)
     }
 
-    /// Hands out a document's pending list, and leaves it empty (CSSOM View, 13: run the scroll steps). It takes no memory.
+    /// Hands out a document's pending list, and leaves it empty (CSSOM View, 13: run the scroll steps). It doesn't allocate.
     pub fn take_pending(&mut self, document: DocumentId) -> Vec<Container>
         ensures value { seen_containers result.items ≡ pending_of document.0 self.old }
         ensures taken { self.new ≡ without_pending document.0 self.old }
