@@ -2,11 +2,11 @@
 
 use thiserror::Error;
 
-/// Why a call is refused. A call that fails changes nothing.
+/// Why a call failed. A call that fails changes nothing.
 #[derive(Clone, Copy, Debug, PartialEq, Eq, Error)]
 pub enum TableFault {
-    /// The document has the key already.
-    #[error("the document has the key already")]
+    /// The key is already in use in the document.
+    #[error("the key is already in use in the document")]
     Taken,
     /// The maximum number is already present.
     #[error("the maximum number is already present")]

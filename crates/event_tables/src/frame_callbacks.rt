@@ -19,8 +19,8 @@ use std::collections::BTreeMap;
 use std::marker::Model;
 use text_io::Name;
 
-/// The frame callbacks of a page in creation order, each with its document and a key of its own there. Contracts see them as
-/// the definitions of a world do, with the count of serial numbers given out, and how many there may be.
+/// The frame callbacks of a page in creation order, each with its document and a key unique in that document. Contracts see
+/// them as the definitions of a world do, with the count of serial numbers given out and the limit.
 #[derive(Drop)]
 pub struct FrameCallbacks {
     entries: Entries<DocumentKey, HandlerId>,
@@ -48,10 +48,10 @@ impl FrameCallbacks {
         }
     }
 
-    /// Requests a frame callback of a document under a key, last.
+    /// Requests a frame callback of a document under a key; it runs after those already requested.
     ///
-    /// `Taken` exactly when the document has the key; otherwise `Limit` exactly when `most` are held; otherwise `Memory` if
-    /// an allocation fails. Requires that fewer than 2^64 - 1 serial numbers have been given out.
+    /// `Taken` exactly when the key is in use in the document; otherwise `Limit` exactly when `most` are held; otherwise
+    /// `Memory` if an allocation fails. Requires that fewer than 2^64 - 1 serial numbers have been given out.
     pub fn request(
         &mut self,
         document: DocumentId,
@@ -83,9 +83,9 @@ impl FrameCallbacks {
         copies(self.entries.allocator(), self.entries.held(), document)
     }
 
-    /// Takes out the first copied frame callback that still stands, and tells its key and handler; it and those before it
-    /// leave the batch. `None` exactly when none of those that are left still stands: one that was cancelled and requested
-    /// anew is another.
+    /// Removes the first frame callback of the batch that is still registered, and returns its key and handler; the batch is
+    /// advanced past it. `None` exactly when none of the rest is still registered. One that was cancelled and requested again
+    /// counts as a different one.
     pub fn next(&mut self, batch: &mut Batch) -> Option<(Name, HandlerId)>
         ensures value { option_map {U = List ℕ × ℕ} (λ called. (called.0, called.1.0)) result ≡ option_map told (find (λ it. frame_callback_stands it self.old.part) batch.old) }
         ensures removed { self.new ≡ record self.old { part = once_handed (find (λ it. frame_callback_stands it self.old.part) batch.old) (self.old.part) } }
@@ -97,7 +97,7 @@ impl FrameCallbacks {
         Some((callback.key.key, callback.handler))
     }
 
-    // Takes the first callback that still stands off the batch, with those before it.
+    // Advances the batch past the first callback that is still registered, and returns that.
     fn first_standing(&self, batch: &mut Batch) -> Option<Callback>
         ensures value { option_map seen_callback result ≡ find (λ it. frame_callback_stands it self.now.part) batch.old }
         ensures left { batch.new ≡ behind_first (λ it. frame_callback_stands it self.now.part) batch.old }
@@ -110,14 +110,14 @@ impl FrameCallbacks {
         None
     }
 
-    // Takes the one of a serial number out.
+    // Removes the one with this serial number.
     fn take(&mut self, serial: u64)
         ensures { self.new ≡ record self.old { part = frame_callback_taken serial (self.old.part) } }
     {
         self.entries.take(serial);
     }
 
-    // Whether the callback of a serial number is held.
+    // Whether the callback with this serial number is registered.
     fn stands(&self, serial: u64) -> bool
         ensures { result ≡ list_any (λ (each : FrameCallback). each.serial == serial) self.now.part.held }
     {
@@ -125,7 +125,7 @@ impl FrameCallbacks {
     }
 }
 
-// Copies of those of a document.
+// Copies those of a document.
 fn copies(
     alloc: Global,
     held: &BTreeMap<u64, (DocumentKey, HandlerId)>,

@@ -98,8 +98,8 @@ impl Clips {
         self.touches.touch(of);
     }
 
-    /// The pair of a number, `None` exactly when none is held. No clip was computed, and no spot touched, at a number of
-    /// touches that didn't come yet.
+    /// Returns the pair with this number, `None` exactly when there is none. No touch number that is stored, of a clip or of
+    /// a spot, exceeds the current count (`numbered`).
     pub fn pair(&self, number: u64) -> Option<Pair>
         ensures value { result ≡ pair_at self.now number }
         ensures numbered { AreNumbered self.now }
