@@ -162,7 +162,7 @@ pub(crate) fn is_stretched(style: &Style, inputs: Given) -> bool
     !inputs.flow && insets.one.is_some() && insets.other.is_some()
 }
 
-// Returns the width for `auto`; the caller caps it at the largest length.
+// Returns the width for `auto`, exact once capped at the largest length.
 fn automatic_width(style: &Style, kind: ItemKind, inputs: Given, around: u64) -> u64
     ensures { cap result ≡ cap (automatic_width (seen_kind kind) (seen_given inputs) (used_insets (seen_style style.now).inset (seen_given inputs)) around) }
 {
@@ -177,7 +177,7 @@ fn automatic_width(style: &Style, kind: ItemKind, inputs: Given, around: u64) ->
     }
 }
 
-// Returns the height for `auto`; the caller caps it at the largest length.
+// Returns the height for `auto`, exact once capped at the largest length.
 fn automatic_height(style: &Style, kind: ItemKind, inputs: Given, inside: u64, around: u64) -> u64
     ensures { cap result ≡ cap (automatic_height (seen_kind kind) (seen_given inputs) (used_insets (seen_style style.now).inset (seen_given inputs)) inside around) }
 {

@@ -1,4 +1,4 @@
-//! Why a call is refused.
+//! The errors of the tables.
 
 use thiserror::Error;
 
