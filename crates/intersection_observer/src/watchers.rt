@@ -77,14 +77,14 @@ impl Watchers {
         }
     }
 
-    /// Whether the maximum number was made, so that `make` returns `Limit`.
+    /// Whether the maximum number was created, so that `make` would return `Limit`.
     pub fn is_full(&self) -> bool
         ensures { result ≡ not (has_room self.now) }
     {
         self.made.len() >= self.most_watchers as usize
     }
 
-    /// Returns how many were made.
+    /// Returns how many were created.
     pub fn count(&self) -> u32
         ensures { result ≡ length self.now.part.made }
     {

@@ -104,7 +104,8 @@ impl KeptFindings {
 
     /// Starts an update: returns a `Looks` in which no spot was looked at yet.
     ///
-    /// # Errors If an allocation fails.
+    /// # Errors
+    /// If an allocation fails.
     pub fn looks(&self) -> Result<Looks, AllocError>
         ensures none { IfOk result (λ looks. looks ≡ no_looks self.now.seen) }
         ensures known { IfOk result (λ looks. (scene : SceneOf) (rank : ContainerOf → ℕ) → AreLooked scene rank self.now.seen looks) }
@@ -126,7 +127,7 @@ impl KeptFindings {
     /// computed.
     ///
     /// # Errors
-    /// Where there is no memory; nothing is changed then.
+    /// If an allocation fails; nothing is changed then.
     pub fn register(
         &mut self,
         registration: RegistrationId,
@@ -162,7 +163,8 @@ impl KeptFindings {
     /// (`Index::stale_registrations`). Requires that each spot of their chains was looked at. Clips that are out of date are
     /// recomputed.
     ///
-    /// # Errors If the list can't be allocated.
+    /// # Errors
+    /// If the list can't be allocated.
     pub fn stale_registrations<S: Scene + Scrolls, L: Ledger>(
         &mut self,
         scene: &S,

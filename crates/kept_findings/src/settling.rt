@@ -108,7 +108,8 @@ impl KeptFindings {
     /// that each spot of its chain was looked at. Returns whether an entry was queued, which is so exactly when the finding
     /// is news. It takes the steps of `recompute`.
     ///
-    /// # Errors If the entry can't be allocated: the observers are unchanged then, and the registration counts as never
+    /// # Errors
+    /// If the entry can't be allocated: the observers are unchanged then, and the registration counts as never
     /// computed.
     pub fn settle<S: Tells, L: Ledger>(
         &mut self,

@@ -35,7 +35,7 @@ fn root_inputs(viewport: Size) -> Inputs
     }
 }
 
-// Computes what is due of the boxes of an Active document, once those of the document around it are up to date.
+// Recomputes the boxes that are due in an Active document, once those of the document that its frame is in are up to date.
 fn lay_out<L: Ledger>(
     boxes: &mut Kept,
     page: &PageTree,

@@ -269,7 +269,7 @@ impl LaidTree {
 
     /// Sets the natural size of an image, in units of 1/64 pixel, and marks the image.
     ///
-    /// TypeError exactly when the element is no image. Nothing is changed then.
+    /// TypeError exactly when the element isn't an image. Nothing is changed then.
     pub fn load(&mut self, node: NodeId, size: Size) -> Result<(), ThrowKind>
         requires node { node.0 < length self.old.elements.tree.elements }
         requires size { IsNatural size }

@@ -18,7 +18,7 @@ pub enum Effect {
     Taken(WatcherId, EntryList),
 }
 
-/// Why a call failed. Except after `update_intersections`, the page's world is unchanged then.
+/// Why a call failed. The page's world is unchanged then.
 #[derive(Clone, Copy, Debug, PartialEq, Eq, Error)]
 pub enum PageFault {
     /// The command throws an exception.

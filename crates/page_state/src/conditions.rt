@@ -29,7 +29,8 @@ impl Page {
     /// entry, `None` unless it is an intersection observer's. The world, and whether a command was begun, are unchanged.
     /// Doesn't allocate.
     ///
-    /// # Errors An exception exactly when the definition throws it.
+    /// # Errors
+    /// An exception exactly when the definition throws it.
     #[tactic(auto, unfolding(page_model::specs::Commands::holds))]
     pub fn holds<L: Ledger>(
         &mut self,

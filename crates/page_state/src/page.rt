@@ -155,7 +155,8 @@ impl Page {
 
     /// Counts a command, which may then be applied.
     ///
-    /// # Errors `Limit(Commands)` exactly when the maximum of the page's version was begun. Nothing is changed then. Doesn't
+    /// # Errors
+    /// `Limit(Commands)` exactly when the maximum of the page's version was begun. Nothing is changed then. Doesn't
     /// allocate.
     #[tactic(auto, unfolding(page_model::specs::Commands::begun_in))]
     pub fn begin_command(&mut self) -> Result<(), PageFault>
@@ -176,7 +177,8 @@ impl Page {
 
     /// Sets the clock, in milliseconds, to a time of at most 1,000,000,000,000.
     ///
-    /// # Errors `Throw(RangeError)` exactly when the time is before the clock's. Nothing is changed then. Doesn't allocate.
+    /// # Errors
+    /// `Throw(RangeError)` exactly when the time is before the clock's. Nothing is changed then. Doesn't allocate.
     pub fn set_time(&mut self, time: u64) -> Result<(), PageFault>
         requires { IsTime time }
         ensures set { Moved result self.old.world self.new.world (time_set time self.old.world) }
@@ -196,7 +198,8 @@ impl Page {
     /// Applies a command that was begun, as the definition of commands says, for the target of the present entry if there is
     /// one.
     ///
-    /// # Errors `Throw` and `Limit` exactly when the definition says so; `Memory` only if it says neither. The world is
+    /// # Errors
+    /// `Throw` and `Limit` exactly when the definition says so; `Memory` only if it says neither. The world is
     /// unchanged then.
     pub fn apply<L: Ledger>(
         &mut self,

@@ -42,7 +42,8 @@ impl Page {
     /// first of its observers from `place` on that has active observations, with an entry for each of them of the current
     /// sizes, which become the last reported ones. `None` exactly when no observer with active observations is left.
     ///
-    /// # Errors If an allocation fails; the world is unchanged then.
+    /// # Errors
+    /// If an allocation fails; the world is unchanged then.
     pub fn next_delivery<L: Ledger>(
         &mut self,
         document: DocumentId,

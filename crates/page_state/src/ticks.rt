@@ -78,7 +78,8 @@ impl Page {
     /// through the scroll margins of each, queues an entry for each change, and a notify task if an entry was queued. Only
     /// stale findings are recomputed.
     ///
-    /// # Errors If an allocation fails. The registrations before the failed one are settled then, and all others, and all
+    /// # Errors
+    /// If an allocation fails. The registrations before the failed one are settled then, and all others, and all
     /// queues that these don't add to, are unchanged; if only queueing the notify task fails, all are settled.
     pub fn update_intersections<L: Ledger>(
         &mut self,
@@ -133,7 +134,8 @@ impl Page {
     /// observers). Clears the document's flag: so a page that was ready for a tick stays so if a notify task of the document
     /// was popped just before (`pop_task`), but needn't if one is still queued.
     ///
-    /// # Errors If an allocation fails; nothing is changed then.
+    /// # Errors
+    /// If an allocation fails; nothing is changed then.
     pub fn notify_list(&mut self, document: DocumentId) -> Result<Vec<WatcherId>, AllocError>
         ensures list { IfOk result (λ list. watcher_numbers list.items ≡ watchers self.old.world.tree document.0 self.old.world.intersection_observers) }
         ensures made { IfOk result (λ list. All (λ watcher. watcher.0 < length self.old.world.intersection_observers.made) list.items) }

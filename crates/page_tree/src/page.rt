@@ -273,7 +273,7 @@ impl PageTree {
 
     /// Sets the natural size of an image, in units of 1/64 pixel.
     ///
-    /// TypeError exactly when the element is no image. Nothing is changed then.
+    /// TypeError exactly when the element isn't an image. Nothing is changed then.
     pub fn load(&mut self, node: NodeId, size: Size) -> Result<(), ThrowKind>
         requires node { node.0 < length self.old.tree.elements }
         requires size { IsNatural size }

@@ -17,7 +17,7 @@ fn words_of(rt: &HostRuntime) -> io::Result<Vec<String>> {
     Ok(words)
 }
 
-// Maps an error in reading the arguments. An argument that isn't UTF-8 is no word of the program.
+// Maps an error in reading the arguments. An argument that isn't UTF-8 isn't a word of the program.
 fn status_of(error: &io::Error) -> Status {
     match error.kind() {
         io::ErrorKind::InvalidData => Status::Usage,

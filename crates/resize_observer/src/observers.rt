@@ -71,14 +71,14 @@ impl Observers {
         }
     }
 
-    /// Whether the maximum number was made, so that `make` returns `Limit`.
+    /// Whether the maximum number was created, so that `make` would return `Limit`.
     pub fn is_full(&self) -> bool
         ensures { result ≡ not (has_room self.now) }
     {
         self.made.len() >= self.most_observers as usize
     }
 
-    /// Returns how many were made.
+    /// Returns how many were created.
     pub fn count(&self) -> u32
         ensures { result ≡ length self.now.part.made }
     {

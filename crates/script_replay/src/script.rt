@@ -84,8 +84,8 @@ fn run_script<K: Sink, L: Ledger>(
     }
 }
 
-/// Does with a script what is asked, and writes what is to be said of it. The page is handed out exactly when the script is
-/// run to its end for its trace or its summary.
+/// Performs a job on a script, and writes the result. The page is returned exactly when the script was run to its end for its
+/// trace or its summary.
 ///
 /// - `Done`, `Limit`: exactly as the reply to the job and the script says, and all of its text was written. `Syntax`,
 ///   `Differs`, `Usage` and `ReadFault` don't occur.

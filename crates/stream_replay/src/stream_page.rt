@@ -1,4 +1,4 @@
-//! A page of a stream, as it runs.
+//! The run of one page of a stream.
 
 ghost use Rattle.std.specs.Prelude.{◌≡◌, true, [], OnOk, OnErr, Err};
 ghost use Rattle.std.specs.List.{All};
@@ -71,7 +71,7 @@ impl Standing {
     }
 }
 
-/// A page of a stream, as it runs.
+/// The run of one page of a stream.
 #[derive(Drop)]
 pub struct StreamPage {
     pub name: Name,
