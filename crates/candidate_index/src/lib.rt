@@ -1,8 +1,8 @@
 //! A cache of the findings of intersection observers (Intersection Observer, 3.2.10): the finding of each registration is
 //! kept until an input of it changes; it answers which registrations are stale, and recomputes one.
 //!
-//! The relation of targets to roots, containers, clips and boxes are queried from the caller (`Scene`). Rectangles are in
-//! units of 1/64 CSS pixel and in the coordinates of the top document's viewport.
+//! Containers, clips and boxes, and the relations of targets to roots, are queried from the caller (`Scene`). Rectangles are
+//! in units of 1/64 CSS pixel and in the coordinates of the top document's viewport.
 #![tactic(auto)]
 
 mod basis;

@@ -10,8 +10,8 @@ use intersection_observer::Root;
 /// How a target relates to a root (Intersection Observer, 3.2.10).
 #[derive(Clone, Copy, Debug, PartialEq, Eq)]
 pub enum Standing {
-    /// The root isn't implicit and the target is in another document, or the root is an element that doesn't contain the
-    /// target's box, or one of the two has no box.
+    /// The root isn't implicit and the target is in another document, or the root is an element that isn't on the target's
+    /// chain of containing blocks, or one of the two has no box.
     Apart,
     /// Not `Apart`, but the target has no box.
     NoBox,

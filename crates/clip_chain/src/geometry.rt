@@ -27,7 +27,7 @@ pub trait Geometry {
         ensures end { IfSome result (λ next. rank self.now next < rank self.now of) };
 
     /// Returns the rectangle that a spot clips its content to: the padding box of an element that clips, the viewport of a
-    /// document. None for an element that doesn't clip or has no box. Each edge lies between -2^48 and 2^48, the width
+    /// document. `None` for an element that doesn't clip or has no box. Each edge lies between -2^48 and 2^48, the width
     /// between -2^42 and 2^42, unless it was moved by scroll margins.
     fn clip(&self, of: Container) -> Option<Rect>
         ensures clip { result ≡ (scene self.now).clip of }

@@ -29,8 +29,8 @@ pub fn a_chain_is_the_only_one()
 {}
 
 /// In any world, the clips on the chain from a target to a root are those of the world's definition, so that the visible part
-/// of the target is that of its finding. The root rectangle before root margins are applied is the world's, too. The chain
-/// must not be longer than that definition looks.
+/// of the target is that of its finding. The root rectangle before root margins are applied is the world's, too. This is for
+/// chains no longer than that definition follows.
 pub fn chains_are_those_of_any_world()
     ensures clips { (shown : Shown) (root : Root) (target : ℕ) (between : List ContainerOf) →
         Leads (scene_of shown) (element_spot target) between (spot_of_root root) → length between ≤ most_containers →

@@ -34,8 +34,9 @@ fn notify_watcher<K: Sink, L: Ledger>(
     call_handler(run, document, handler, &entries)
 }
 
-/// Runs a notify task that was popped: does nothing if its document isn't Active; otherwise clears its flag, and calls each
-/// of its observers with the entries of its queue, in creation order (Intersection Observer, 3.2.4).
+/// Runs a notify task that was popped: does nothing if its document isn't Active; otherwise clears its flag, takes the queue
+/// of each of its observers at its turn, in creation order, and calls the observer with the entries, if there are any
+/// (Intersection Observer, 3.2.4).
 pub(crate) fn notify<K: Sink, L: Ledger>(
     run: &mut Run<'_, K, L>,
     document: DocumentId,

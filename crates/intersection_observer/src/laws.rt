@@ -1,4 +1,4 @@
-//! Laws of the definitions, each law is stated as the contract of an empty function.
+//! Laws of the definitions, each stated as the contract of an empty function.
 
 ghost use Rattle.std.specs.Prelude.{◌≡◌, ℕ, List, false};
 ghost use Rattle.page_model.specs.World.{Finding, IntersectionObserver, IntersectionObservers};

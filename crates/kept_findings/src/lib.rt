@@ -2,8 +2,9 @@
 //! 3.2.10): the last known state of each spot, the clips between targets and roots, and the finding of each registration with
 //! its inputs.
 //!
-//! The relation of targets to roots, containers, clips and boxes are queried from the caller (`candidate_index::Scene`).
-//! Rectangles are in units of 1/64 CSS pixel and in the coordinates of the top document's viewport.
+//! Containers, clips and boxes, and the relations of targets to roots, are queried from the caller
+//! (`candidate_index::Scene`). Rectangles are in units of 1/64 CSS pixel and in the coordinates of the top document's
+//! viewport.
 #![tactic(auto)]
 
 mod findings;

@@ -38,7 +38,8 @@ impl Report {
         }
     }
 
-    /// Returns the status, and drops the page.
+    /// Returns the status, and drops the page. Other code calls this rather than drop a page itself: such a drop takes long
+    /// to prove.
     pub fn into_status(self) -> Status
         ensures { result ≡ self.status }
     {

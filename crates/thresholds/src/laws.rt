@@ -1,4 +1,4 @@
-//! Laws of the definitions, each law is stated as the contract of an empty function.
+//! Laws of the definitions, each stated as the contract of an empty function.
 
 ghost use Rattle.std.specs.Prelude.{◌≡◌, ◌<◌, ℕ, ℤ, pos, List, length, map, Some, None, false};
 ghost use Rattle.std.specs.List.Sorted.{IsNonDecreasing, IsPermutation};

@@ -16,8 +16,8 @@ pub use thresholds::Thresholds;
 /// Why margins or thresholds couldn't be created.
 #[derive(Clone, Copy, Debug, PartialEq, Eq, Error)]
 pub enum ThresholdFault {
-    /// The text isn't a root margin.
-    #[error("not a valid root margin")]
+    /// The text isn't a margin in the syntax of `rootMargin`.
+    #[error("not a valid margin")]
     MarginSyntax,
     /// A threshold is below 0 or above 1.
     #[error("a threshold is below 0 or above 1")]
