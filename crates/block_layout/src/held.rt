@@ -85,7 +85,7 @@ impl FreshBoxes {
 
     /// Recomputes every box of the tree under a root element, from the root's inputs, and stores it. The slots of nodes in
     /// that tree without a box are empty afterwards (CSS 2.2, 9.2.4), and a box without a slot isn't stored. It takes one
-    /// step for each box. The root may have a parent: then the boxes in its subtree are computed. Exact only if no element of
+    /// step for each box. The root may have a parent: then the boxes in its subtree are computed. Exact if no element of
     /// the tree is positioned.
     ///
     /// It recurses once per level: a tree of 2,000 levels was tested, while some 5,000 may overflow the stack.

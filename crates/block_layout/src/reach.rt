@@ -71,7 +71,7 @@ impl Extent {
 /// padding box and at its own scroll offset 0; otherwise of the viewport of that size whose root element is `node`. Each
 /// length is at most 2,147,483,647 units.
 ///
-/// Exact only if no element of the node's tree is positioned, and the boxes of the node and its descendants are up to date in
+/// Exact if no element of the node's tree is positioned, and the boxes of the node and its descendants are up to date in
 /// `boxes`. For a box that doesn't clip it is the size of its padding box. It recurses once per level: a tree of 2,000 levels
 /// was tested, while some 5,000 may overflow the stack.
 pub fn overflow_reach<P: Styled, B: Boxes>(

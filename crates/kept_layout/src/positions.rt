@@ -62,7 +62,7 @@ fn on_top(own: &BoxOf) -> Shift
 
 impl Kept {
     /// Returns the offset from the corner of the parent's border box to the node's static position, for a root element from
-    /// the viewport's corner (CSS 2.2, 8.1 and 9.4.1), while nothing is scrolled. Exact only if the node has a box, and the
+    /// the viewport's corner (CSS 2.2, 8.1 and 9.4.1), while nothing is scrolled. Exact if the node has a box, and the
     /// boxes of the node and its ancestors are up to date (`refresh`). It reads the boxes of the node and its parent alone.
     pub fn shift<P: Styled>(&self, tree: &Tree<P>, node: NodeId) -> Shift
         ensures value { let at = layout_tree P.style P.kind tree.now.nodes in (view : View) →
@@ -86,7 +86,7 @@ impl Kept {
     }
 
     /// Returns the place of a node's border box in its document's viewport, with all scroll offsets taken as 0 (CSS 2.2, 9.4
-    /// and 10; CSS Positioned Layout 3, 2 and 3). Exact only if the node has a box, and the boxes of the node and its
+    /// and 10; CSS Positioned Layout 3, 2 and 3). Exact if the node has a box, and the boxes of the node and its
     /// ancestors are up to date (`refresh`) in a viewport whose lengths are at most the largest one. It reads the boxes of
     /// the node and its ancestors alone.
     pub fn flat_place_of<P: Styled>(&self, tree: &Tree<P>, node: NodeId) -> Point

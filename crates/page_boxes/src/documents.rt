@@ -76,7 +76,7 @@ pub fn has_box(page: &PageTree, node: NodeId) -> bool
     has_box_below(page, root, node)
 }
 
-/// Returns the box of an element, given the root element that its document shows, `None` if it has none. Exact only if the
+/// Returns the box of an element, given the root element that its document shows, `None` if it has none. Exact if the
 /// boxes of its document are up to date (`refresh_in`). Doesn't allocate.
 pub fn box_below(page: &PageTree, boxes: &Kept, root: Option<NodeId>, node: NodeId) -> Option<BoxOf>
     ensures { (screen : WorldScreen) → option_map number root ≡ (view_at page.now.tree screen node.0).root →
@@ -128,7 +128,7 @@ pub struct ShownRoot {
 }
 
 /// Returns the size of a document's viewport (CSSOM View, 4: `innerWidth`, `innerHeight`): for `top` that of its screen, for
-/// any other document that of the content box of its frame, 0 by 0 if that has no box. Exact only if the boxes of the
+/// any other document that of the content box of its frame, 0 by 0 if that has no box. Exact if the boxes of the
 /// document that its frame is in are up to date for this screen (`refresh_in`). Doesn't allocate.
 pub fn viewport_of(page: &PageTree, boxes: &Kept, screen: Screen, document: DocumentId) -> Size
     requires { IsScreen screen }

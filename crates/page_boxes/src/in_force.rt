@@ -59,7 +59,7 @@ fn stored_within(scrolls: &Scrolls, target: Container, least: Size) -> Option<Po
 }
 
 /// Returns the scroll offset in force of a node that has a box (CSSOM View, 6: `scrollTop`): on each axis the lesser of the
-/// stored position and the range. Exact only if the boxes of its document are up to date (`refresh_in`) and no length of its
+/// stored position and the range. Exact if the boxes of its document are up to date (`refresh_in`) and no length of its
 /// viewport is above the largest one. Doesn't allocate.
 pub fn boxed_offset<P: Styled>(
     tree: &Tree<P>,

@@ -129,7 +129,7 @@ fn view_shift(view: Point, on_screen: bool) -> Shift
 }
 
 /// Returns the place of the border box of a node that has a box, in its document's viewport, `view` being the viewport's
-/// scroll offset (CSSOM View, 6: `getBoundingClientRect`). Exact only if the boxes of its document are up to date
+/// scroll offset (CSSOM View, 6: `getBoundingClientRect`). Exact if the boxes of its document are up to date
 /// (`refresh_in`) and no length of the viewport is above the largest one. Doesn't allocate.
 ///
 /// It visits the boxes of the node, its ancestors and its holders alone, with the cached height above each; scroll offsets on

@@ -57,7 +57,7 @@ pub(crate) fn range_between(reach: Size, shown: Size) -> Size
 }
 
 /// Returns the scroll range of a node that has a box (CSS Overflow 3, 2.2; CSSOM View: scrolling area): how far its content
-/// overflows its padding box, 0 by 0 if it isn't a scroll container. Exact only if the boxes of its document are up to date
+/// overflows its padding box, 0 by 0 if it isn't a scroll container. Exact if the boxes of its document are up to date
 /// (`refresh_in`) and no length of the viewport is above the largest one. Doesn't allocate.
 ///
 /// It recurses once per level of the tree below.
@@ -79,7 +79,7 @@ pub fn boxed_range<P: Styled>(tree: &Tree<P>, boxes: &Kept, node: NodeId) -> Siz
 }
 
 /// Returns the scroll range of the viewport in which a root element is shown (CSSOM View: scrolling area): how far the
-/// content overflows the viewport. Exact only if the boxes of the document are up to date (`refresh_in`). Doesn't allocate.
+/// content overflows the viewport. Exact if the boxes of the document are up to date (`refresh_in`). Doesn't allocate.
 ///
 /// It recurses once per level of the tree below.
 pub fn shown_range<P: Styled>(tree: &Tree<P>, boxes: &Kept, shown: ShownRoot) -> Size

@@ -21,7 +21,7 @@ const NO_SIZE: Size = Size {
 };
 
 /// Returns the size of an element's content box or border box in units of 1/64 CSS pixel (CSS 2.2, 8.1), or of its content
-/// box in device pixels of this screen of `top`, rounded to the nearest pixel, halves up; 0 by 0 without a box. Exact only if
+/// box in device pixels of this screen of `top`, rounded to the nearest pixel, halves up; 0 by 0 without a box. Exact if
 /// the boxes of its document are up to date (`refresh_in`). Doesn't allocate.
 pub fn size_of(page: &PageTree, boxes: &Kept, screen: Screen, node: NodeId, kind: BoxKind) -> Size
     requires { IsScreen screen }

@@ -248,7 +248,7 @@ fn flat_along<P: Placed, M: Measures>(tree: &Tree<P>, measures: &M, node: NodeId
 
 /// Returns the place of the border box of a node with a box in its document's viewport, with all scroll offsets taken as 0.
 /// In flow it is determined by the node's parent and its earlier siblings, and moved by its insets if it is relative; out of
-/// flow it is offset from its holder by its insets, and on an axis without an inset it is the static position. Exact only if
+/// flow it is offset from its holder by its insets, and on an axis without an inset it is the static position. Exact if
 /// `measures` is exact for the node and its ancestors. Doesn't allocate.
 ///
 /// It walks outwards once per axis, over the boxes of the node and of those that determine its place.

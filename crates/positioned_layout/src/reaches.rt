@@ -245,7 +245,7 @@ fn far_below<P: Placed, M: Measures>(
 /// Returns the size of the scrollable overflow: of the scroll container `of`, from the corner of its padding box, over that
 /// box and the border boxes that it holds without a clipping box in between; for `None` of the viewport of this size, over
 /// the boxes that the page holds likewise. `root` is the root element of the document. Scroll offsets are taken as 0, and
-/// each length is at most 2,147,483,647 units. Exact only if `measures` is exact for all boxes of the document. Doesn't
+/// each length is at most 2,147,483,647 units. Exact if `measures` is exact for all boxes of the document. Doesn't
 /// allocate.
 ///
 /// It recurses once per level of the tree below.
