@@ -2,7 +2,7 @@
 
 use thiserror::Error;
 
-/// Why a call fails. A call that fails changes nothing in the tree's nodes.
+/// Why a call fails. A call that fails changes no node.
 #[derive(Debug, Drop, Error)]
 pub enum TreeFault {
     /// The node is an inclusive ancestor of the parent that it was to be inserted into.

@@ -232,7 +232,7 @@ impl<P> Tree<P> {
         &self.slots[node.0 as usize].payload
     }
 
-    /// Returns a node's payload, mutably. Nothing else of the tree is borrowed for writing.
+    /// Returns a mutable reference to a node's payload; nothing else of the tree changes through it.
     pub fn payload_mut(&mut self, node: NodeId) -> &mut P
         requires { node.0 < length self.old.nodes }
         ensures* writes_back { sem 𝓛 (lends_payload P.row self.entry node.0 result) }

@@ -138,8 +138,8 @@ pub fn used_sizes_keep_their_limits()
 {}
 
 /// The margin box of a block with `width: auto` and no minimum or maximum fills its containing width, if margins, borders and padding
-/// leave room; out of flow, the insets count too. Likewise, out of flow a block with `height: auto` between two vertical insets fills its
-/// containing height.
+/// leave room; out of flow, the margin box and the two horizontal insets do. Likewise, out of flow a block with `height: auto` and two
+/// vertical insets fills its containing height.
 pub fn automatic_blocks_fill_their_width()
     ensures value { (item : Item) (inputs : Inputs) (inside : ℕ) → item.kind ≡ BlockKind → inputs.flow ≡ true →
         item.style.width ≡ Automatic → item.style.min_width ≡ Pixels 0 → item.style.max_width ≡ None →
@@ -208,8 +208,8 @@ pub fn flat_places_go_down()
         (flat_place at view n).0 ≡ clamped (left +ℤ pos (box_in at inputs n).margin.left) }
 {}
 
-/// A place is the flat one, moved back by the scroll offset of each element that holds the box, and by the viewport's unless the screen
-/// holds one of them. So what an element holds moves along with it.
+/// A place is the flat one, moved back by the scroll offset of each element that holds the box, directly or in turn, and by the
+/// viewport's if the page, not the screen, ends the chain of holders. So what an element holds moves along with it.
 pub fn places_add_up()
     ensures element { (at : ℕ → Node) (stored : ℕ → ℕ × ℕ) (view : View) → IsShallow at → (n h : ℕ) → holder at n ≡ HeldByElement h →
         let place = moved_back (place_in at stored view h) (offset_in_force at stored view h) in
@@ -247,7 +247,7 @@ pub fn reaches_cover_the_padding_box()
 {}
 
 /// The reach of a scroll container covers each box whose nearest clipping holder it is, and that of a viewport each box that no
-/// element clips and that isn't on the screen, up to the largest length, if each node with a parent is among its children.
+/// element clips and whose chain of holders ends at the page, up to the largest length, if each node with a parent is among its children.
 pub fn no_box_passes_the_reach()
     ensures across { (at : ℕ → Node) → IsListed at → IsShallow at → (view : View) (inputs below : Inputs) (n d : ℕ) →
         inputs_in_view at view n ≡ Some inputs → inputs_in_view at view d ≡ Some below → clipped_by at d ≡ Some n →

@@ -188,7 +188,7 @@ impl LimitKind {
     }
 }
 
-/// The exceptions that a command can throw, as named by Web IDL and ECMAScript.
+/// The exceptions of DOM and Web IDL that a command can throw.
 #[derive(Clone, Copy, Debug, PartialEq, Eq, Hash)]
 pub enum ThrowKind {
     /// A name isn't defined.
@@ -246,7 +246,7 @@ impl ThrowKind {
 pub enum EventKind {
     /// The size of a viewport changed (CSSOM View, run the resize steps).
     Resize,
-    /// A scroll position changed (CSSOM View, run the scroll steps).
+    /// An element or a viewport was scrolled (CSSOM View, run the scroll steps).
     Scroll,
     /// Resize observations were left undelivered (Resize Observer, deliver resize loop error).
     Error,
