@@ -1,5 +1,5 @@
-//! Reading the fields of a line, each after a space. A function whose name ends in `_at` returns the value of the field at the start of the
-//! text, and the rest of the text.
+//! Reading the fields of a line, each after a space. A function whose name ends in `_at` returns the value at the start of the text, and
+//! the rest of the text.
 
 ghost use Rattle.std.specs.Prelude.{◌≡◌, ◌-◌, ◌^◌, ◌≤◌, length, IfSome};
 ghost use Rattle.std.specs.List.{prefix_len};
