@@ -2,7 +2,7 @@
 
 use thiserror::Error;
 
-/// Why an input isn't a stream.
+/// Why a source isn't a stream.
 #[derive(Clone, Copy, Debug, PartialEq, Eq, Error)]
 pub enum StreamFault {
     /// The first line isn't a page line, or there is none.

@@ -70,7 +70,7 @@ impl Splitting {
         Ok(())
     }
 
-    /// Adds a line to the current page, given by its range of the input.
+    /// Adds a line to the current page, given by its range of the source.
     pub fn add(&mut self, from: usize, to: usize) -> Result<(), AllocError>
         requires as_many { length self.old.lines.items ≡ length self.old.pages.items }
         requires inside { self.old.current < length self.old.pages.items }
@@ -94,7 +94,7 @@ impl Splitting {
         }
     }
 
-    /// Takes the line `number`, which begins at offset `from` of the input.
+    /// Takes the line `number`, which begins at offset `from` of the source.
     pub fn take_line(
         &mut self,
         line: &[u8],

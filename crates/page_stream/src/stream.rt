@@ -19,13 +19,13 @@ pub struct Part {
     pub line: u32,
     /// The index of its page among the stream's pages.
     pub page: usize,
-    /// The offset in the input where it begins.
+    /// The offset in the source where it begins.
     pub from: usize,
     /// The offset where it ends, after its line feed.
     pub to: usize,
 }
 
-/// The scripts of several pages in one input. A contract sees the bytes of the input.
+/// The scripts of several pages in one source. A contract sees the bytes of the source.
 #[derive(Drop)]
 pub struct Stream<'a> {
     source: &'a [u8],

@@ -36,7 +36,7 @@ impl Version {
     }
 }
 
-/// What a run is limited in. The first four limits can be met while the script is read, the last two while an input of several texts
+/// What a run is limited in. The first four limits can be met while the script is read, the last two while a source of several texts
 /// is read, and the others by a command.
 #[derive(Clone, Copy, Debug, PartialEq, Eq, Hash)]
 pub enum LimitKind {
@@ -74,7 +74,7 @@ pub enum LimitKind {
     Tasks,
     /// Media query lists created.
     Queries,
-    /// Bytes of an input that has a recorded trace.
+    /// Bytes of a source that has a recorded trace.
     Recorded,
     /// Pages of a stream.
     Pages,

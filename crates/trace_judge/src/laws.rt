@@ -32,7 +32,7 @@ pub fn lines_before_a_difference_are_the_same()
         → (0 < line) × (take (line - 1) (lines_of expected) ≡ take (line - 1) (lines_of recorded)) × (take line (lines_of expected) ≢ take line (lines_of recorded)) }
 {}
 
-/// An input is the concatenation of its script, a line `trace` and its recorded trace; or it is a script alone.
+/// A source is the concatenation of its script, a line `trace` and its recorded trace; or it is a script alone.
 pub fn a_source_is_its_parts()
     ensures { (source : List ℕ) → ((script_of source ≡ source) × (trace_of source ≡ []))
         ⊎ ((line : List ℕ) × (is_divider line ≡ true) × (script_of source ++ (line ++ trace_of source) ≡ source)) }
