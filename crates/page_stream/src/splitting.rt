@@ -34,6 +34,7 @@ fn place_of(pages: &[Name], name: &Name) -> usize
 }
 
 impl Splitting {
+    /// Creates the state before the first line; allocates nothing.
     pub fn new(alloc: Global) -> Splitting
         ensures split { IsSplit result [] [] }
         ensures pages { result.pages.items ≡ [] }

@@ -30,7 +30,7 @@ pub enum Length {
     Percent(Percent),
 }
 
-/// A width and a height, in units of 1/64 CSS pixel.
+/// A width and a height, in units of 1/64 CSS pixel unless stated otherwise.
 #[derive(Clone, Copy, Debug, PartialEq, Eq)]
 pub struct Size {
     pub width: i64,

@@ -43,7 +43,7 @@ impl<T: Drop> From<AllocFailed<T>> for ParseFault {
 }
 
 /// Why a line couldn't be parsed: the column of the first word that doesn't fit, or the one after the last word where a word
-/// is missing; or want of memory.
+/// is missing; or running out of memory.
 #[derive(Debug, Drop)]
 pub(crate) enum LineFault {
     At { column: u32 },

@@ -17,6 +17,7 @@ pub enum Opening {
 }
 
 impl Opening {
+    /// Whether this is a block, not a handler.
     pub fn is_block(&self) -> bool
         ensures { result ≡ model.is_block (opening_of self.now) }
     {

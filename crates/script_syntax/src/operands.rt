@@ -9,7 +9,7 @@ use text_io::Name;
 pub enum Operand {
     /// By its name.
     Named(Name),
-    /// `$target`, the target of the current observer entry.
+    /// `$target`, the target of the present observer entry.
     Target,
 }
 
@@ -49,7 +49,7 @@ pub enum Test {
     Matches(Name),
     /// Whether a node has a parent or is a root element.
     Attached(Operand),
-    /// Whether the current observer entry is intersecting.
+    /// Whether the present observer entry is intersecting.
     Seen,
 }
 

@@ -12,6 +12,7 @@ pub enum Version {
 }
 
 impl Version {
+    /// All versions.
     pub const ALL: [Version; 2] = [Version::First, Version::Second];
 
     /// Returns the word for it in a script's first line.
@@ -36,7 +37,7 @@ impl Version {
     }
 }
 
-/// What a run is limited in. The first four limits can be met while the script is read, the last two while a source of several texts
+/// What a run has a limit on. The first four limits can be met while the script is read, the last two while a source of several texts
 /// is read, and the others by a command.
 #[derive(Clone, Copy, Debug, PartialEq, Eq, Hash)]
 pub enum LimitKind {
@@ -91,6 +92,7 @@ fn by_version(version: Version, first: u64, second: u64) -> u64
 }
 
 impl LimitKind {
+    /// All limits.
     pub const ALL: [LimitKind; 19] = [
         LimitKind::Script,
         LimitKind::Line,
@@ -206,6 +208,7 @@ pub enum ThrowKind {
 }
 
 impl ThrowKind {
+    /// All exceptions.
     pub const ALL: [ThrowKind; 6] = [
         ThrowKind::ReferenceError,
         ThrowKind::TypeError,
@@ -250,11 +253,12 @@ pub enum EventKind {
     Scroll,
     /// Resize observations were left undelivered (Resize Observer, deliver resize loop error).
     Error,
-    /// Whether a media query list matches changed (CSSOM View).
+    /// A media query list started or stopped matching (CSSOM View).
     Change,
 }
 
 impl EventKind {
+    /// All events.
     pub const ALL: [EventKind; 4] = [
         EventKind::Resize,
         EventKind::Scroll,
