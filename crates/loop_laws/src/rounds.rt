@@ -10,10 +10,10 @@ ghost use Rattle.page_laws.specs.Bounds.{IsWithinLimits};
 ghost use Rattle.loop_laws.specs.Rounds.{goes_on, rounds_up_to, round_depth, IsDeeper, rounds_left};
 ghost use Rattle.loop_laws.specs.WholeLoops.{resize_rounds, has_undelivered, fire_error};
 
-/// No resize loop is cut off by the bound on its recursion. The active targets after gathering at a depth are deeper than that, and a
-/// round that begins with them and leaves its document Active ends with gathering at a depth again; by then a command has begun, or the
-/// depth is greater. So `rounds_left` falls with each round, and the loop is the same with any bound above it: its rounds can be unrolled
-/// one by one without lowering the bound, and it ends when nothing is active any more, unless a limit was met before.
+/// No resize loop is cut off by the bound on its recursion. The targets gathered at a depth are deeper than that, and a round that begins
+/// with them and leaves its document Active ends with gathering at a depth again; by then a command has begun, or the depth is greater. So
+/// `rounds_left` falls with each round, and the loop is the same with any bound above it: its rounds can be unrolled one by one without
+/// lowering the bound, and it ends when nothing is left to deliver or its document is no longer Active, unless a limit was met before.
 pub fn resize_loops_come_to_rest()
     ensures gathered { (document depth : ℕ) (world : World) → IsDeeper document depth (gather document depth world) }
     ensures falls { (script : Script) (document depth : ℕ) (world : World) → IsWithinLimits world → IsDeeper document depth world →

@@ -1,4 +1,4 @@
-//! Laws of generated scripts, each stated as the contract of a function with an empty body.
+//! Laws of generated scripts, each stated as the contract of a function that does nothing.
 
 ghost use Rattle.std.specs.Prelude.{◌≡◌, ◌+◌, ℕ, Ok};
 ghost use Rattle.script_model.specs.Generator.{generated};

@@ -17,7 +17,7 @@ use std::marker::Model;
 pub struct Lexer {
     bytes: Vec<u8>,
     most_line: usize,
-    // Has scanned all bytes, except a carriage return at their end, which waits for the next byte.
+    // It has scanned all bytes except a carriage return at their end, which waits for the next byte.
     scanner: Scanner,
     // No byte after it is looked at.
     fault: Option<LexFault>,

@@ -115,8 +115,8 @@ impl Scanner {
         Ok(())
     }
 
-    /// Takes the byte at this offset into a word or a comment, beginning one if none is open. A word that would begin with `#`
-    /// is a comment.
+    /// Takes the byte at this offset into a word or a comment, beginning one if none is open. A `#` at the start of a word begins
+    /// a comment instead.
     fn word_byte(&mut self, byte: u8, at: usize)
         ensures { self.new ≡ begun byte at self.old }
     {

@@ -1,4 +1,4 @@
-//! Laws of the definitions, for every script, each stated as the contract of a function with an empty body.
+//! Laws of the definitions, for every script, each stated as the contract of a function that does nothing.
 
 ghost use Rattle.std.specs.Prelude.{◌≡◌, ◌↔◌, ℕ, ℤ, ◌≤◌, unsigned_abs, true, List, length, All, Some, Ok};
 ghost use Rattle.word_model.specs.Numbers.{length_of, signed_of, percent_of, signed_percent_of, number_of};

@@ -1,4 +1,4 @@
-//! Laws of streams of pages, each stated as the contract of a function without effect.
+//! Laws of streams of pages, each stated as the contract of a function that does nothing.
 
 ghost use Rattle.std.specs.Prelude.{◌≡◌, ℕ, List, Some, slice_get, option_map};
 ghost use Rattle.std.specs.List.{All};

@@ -58,7 +58,7 @@ pub fn auto_or_size(word: &[u8]) -> Option<Length>
     size(word)
 }
 
-/// Parses `none`, for which it returns `Some(None)`, a length or a percentage. Returns `None` for any other word.
+/// Parses `none` (as `Some(None)`), a length or a percentage. Returns `None` for any other word.
 #[tactic(auto, using(crate::proofs::Sizes::none_or_size_of_is))]
 pub fn none_or_size(word: &[u8]) -> Option<Option<Length>>
     ensures value { option_map (λ value. option_map seen_length value) result ≡ none_or_size_of word.now }

@@ -61,7 +61,7 @@ pub enum Position {
     Static,
     /// `relative`: moved by its insets from where it is in the flow.
     Relative,
-    /// `absolute`: out of flow, held by its nearest positioned ancestor.
+    /// `absolute`: out of flow, held by its nearest positioned ancestor, or by the page if there is none.
     Absolute,
     /// `fixed`: out of flow, held by the screen: it doesn't move as the viewport is scrolled.
     Fixed,

@@ -1,4 +1,4 @@
-//! Laws of traces and summaries, each stated as the contract of a function without effect.
+//! Laws of traces and summaries, each stated as the contract of a function that does nothing.
 
 ghost use Rattle.std.specs.Prelude.{◌≡◌, ℕ, List};
 ghost use Rattle.script_model.specs.Summary.{summary_text};

@@ -1,4 +1,4 @@
-//! Laws of lines and their texts, each stated as the contract of a function without effect.
+//! Laws of lines and their texts, each stated as the contract of a function that does nothing.
 
 ghost use Rattle.std.specs.Prelude.{◌≡◌, ◌≢◌, ℕ, List, [], ◌∷◌, ◌++◌};
 ghost use Rattle.std.specs.List.{All};

@@ -28,8 +28,8 @@ fn are_decimals(digits: &[u8], rest: u64) -> bool
     left == 0
 }
 
-/// Returns the number of 64ths that can begin with these decimals. Since 64ths are more than a hundredth apart, two decimals
-/// determine it.
+/// Returns the only number of 64ths whose decimals can begin with these. Since 64ths are more than a hundredth apart, two
+/// decimals determine it.
 #[tactic(auto, unfolding(crate::specs::Reading::sixty_fourths))]
 fn sixty_fourths(digits: &[u8]) -> u64
     ensures { result ≡ sixty_fourths digits.now }
