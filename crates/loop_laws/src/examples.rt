@@ -10,8 +10,8 @@ pub fn a_second_round_is_deeper()
 {}
 
 /// The first handler removes the second one's target from the tree, so that it is delivered at depth 1, and the second handler puts it
-/// back, which removes it from no parent: four rounds of depth 1, each with one command that uproots, and a last one, in which only the
-/// second handler is called and moves it to where it already is.
+/// back, which uproots nothing, since it has no parent then: four rounds of depth 1, each with one command that uproots, and a last one, in
+/// which only the second handler is called and moves it to where it already is.
 pub fn depths_fall_where_commands_uproot()
     ensures { loop_seen (codes "script 1\nhandler ha\nwhen not taller x 12px\ngrow x height 1px\nend\nremove y\nend\nhandler hb\nappend z y\nend\nblock r top\nappend top r\nblock x top\nset x height 10px\nappend r x\nblock z top\nappend r z\nblock y top\nset y height 10px\nappend z y\nro a top ha\nro-observe a x content\nro b top hb\nro-observe b y content\n")
         ≡ record {

@@ -166,7 +166,8 @@ pub fn a_document_that_dies_ends_the_loop()
         ) }
 {}
 
-/// A device-pixel content box is reported in whole device pixels, rounded to the nearest, and changes with the device pixel ratio.
+/// A device-pixel content box is reported in whole device pixels, rounded to the nearest, and counts as resized when the device pixel ratio
+/// changes it.
 pub fn device_pixels_are_rounded()
     ensures { trace (
         codes "script 2\nblock r top\nappend top r\nset r width 10.5px\nset r height 3px\n"
