@@ -16,7 +16,7 @@ pub enum ParseFault {
     #[error("line {line}, column {column}: syntax error")]
     Syntax { line: u32, column: u32 },
     /// This line meets a limit: one of `Script`, `Line`, `Handlers` and `Nesting`.
-    #[error("line {line}: limit exceeded: {}", .kind.text())]
+    #[error("line {line}: the limit of {} is met", .kind.text())]
     ScriptLimit { kind: LimitKind, line: u32 },
     #[error("out of memory")]
     Memory,

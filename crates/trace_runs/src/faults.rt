@@ -7,7 +7,7 @@ use thiserror::Error;
 #[derive(Clone, Copy, Debug, PartialEq, Eq, Error)]
 pub enum RunFault {
     /// The command that begins on this line met a limit. The trace line that says so hasn't been written yet.
-    #[error("line {line}: limit exceeded: {}", .kind.text())]
+    #[error("line {line}: the limit of {} is met", .kind.text())]
     Limit {
         /// Which limit it is.
         kind: LimitKind,
