@@ -8,14 +8,9 @@ use std::process::Abort;
 use std::test::Fail;
 use text_io::Version;
 
-/// A number, and how many bytes its text and how many items its script has: one card, eight cards, 500, and 12 with a root margin of
-/// 400 pixels.
-const SIZES: [(u64, usize, usize); 4] = [
-    (0, 482, 24),
-    (7, 1483, 87),
-    (499, 81_629, 4515),
-    (4011, 2077, 123),
-];
+/// A number, and how many bytes its text and how many items its script has: one card, eight cards, and 12 with a root margin of 400
+/// pixels. Those of 500 cards are in `readme_examples`.
+const SIZES: [(u64, usize, usize); 3] = [(0, 482, 24), (7, 1483, 87), (4011, 2077, 123)];
 
 fn see_size(
     rt: &impl Abort,
