@@ -6,8 +6,7 @@ use Rattle.layout_model.specs.Items.{Item, Kind, BlockKind, ImageKind, FrameKind
 use Rattle.layout_model.specs.Nodes.{Node, levels, path_of, is_in_flow, Holder, HeldByElement, HeldByPage, HeldByScreen, holder}
 use Rattle.layout_model.specs.Clips.{is_block}
 
--- what layout knows of a box from above: the width of its containing block, the height of that where it is definite (10.1, 10.5), and
--- whether the box is in flow
+-- what a box takes from its containing block: the width, and the height if it is definite (10.1, 10.5); and whether the box is in flow
 pub record Inputs : Type 0 where
   pub width : ℕ
   pub height : Option ℕ
@@ -21,7 +20,7 @@ pub record Box : Type 0 where
   pub border : Sides ℕ
   pub padding : Sides ℕ
 
--- the areas of a box, each as a width and a height, and their corners from that of the border box (8.1)
+-- the sizes of the content, padding and border boxes, each as a width and a height, and the corners of the inner ones (8.1)
 abbrev pub content_size : Box → ℕ × ℕ
 content_size box = (box.width, box.height)
 
@@ -46,33 +45,33 @@ border_size box = (border_width box, border_height box)
 abbrev pub margin_height : Box → ℕ
 margin_height box = box.margin.top + border_height box + box.margin.bottom
 
--- the content's corner from that of the padding box
+-- the content box's corner, relative to that of the padding box
 abbrev pub content_corner : Box → ℕ × ℕ
 content_corner box = (box.padding.left, box.padding.top)
 
--- the padding box's corner from that of the border box
+-- the padding box's corner, relative to that of the border box
 abbrev pub padding_corner : Box → ℕ × ℕ
 padding_corner box = (box.border.left, box.border.top)
 
--- the content's corner from that of the border box
+-- the content box's corner, relative to that of the border box
 abbrev pub inner_corner : Box → ℕ × ℕ
 inner_corner box = (box.border.left + box.padding.left, box.border.top + box.padding.top)
 
 abbrev pub on_sides : {A B : Type 0} → (A → B) → Sides A → Sides B
 on_sides f sides = record { top = f (sides.top); right = f (sides.right); bottom = f (sides.bottom); left = f (sides.left) }
 
--- margins and paddings, the vertical ones too, are relative to the containing width (8.3, 8.4). None of them is `auto`,
--- for no declaration of the product can set such a value
+-- percentages of margins and paddings, the vertical ones too, refer to the width of the containing block (8.3, 8.4). None of them is
+-- `auto`, since no declaration of the product can set such a value
 abbrev pub used_side : ℕ → LengthValue → ℕ
 used_side width value = unwrap_or (resolved value width) 0
 
--- a length against a basis that may be indefinite: there a percentage gives none
+-- a length resolved against a basis that may be indefinite; without a basis a percentage gives None
 abbrev pub against : LengthValue → Option ℕ → Option ℕ
 against Automatic basis = None
 against (Pixels units) basis = Some (cap units)
 against (Percentage hundredths) basis = option_and_then (resolved (Percentage hundredths)) basis
 
--- the insets, none for `auto` and for a percentage without a basis (CSS Positioned Layout 3, 3.1)
+-- the used insets, None for `auto` and for a percentage without a basis (CSS Positioned Layout 3, 3.1)
 abbrev pub used_insets : Sides InsetValue → Inputs → Sides (Option ℤ)
 used_insets inset inputs = record {
   top = inset_against (inset.top) (inputs.height);
@@ -81,7 +80,7 @@ used_insets inset inputs = record {
   left = inset_against (inset.left) (Some (inputs.width));
 }
 
--- the content size of a size that `box-sizing` says is of the content or of the border box (CSS Box Sizing 3, 3.3)
+-- the content size for a size that is that of the content box or of the border box, as `box-sizing` says (CSS Box Sizing 3, 3.3)
 abbrev pub inner : BoxSizing → ℕ → ℕ → ℕ
 inner ContentBox edges size = size
 inner BorderBox edges size = size - edges
@@ -98,8 +97,8 @@ at_least (Some least) size = max size least
 abbrev pub limited : Option ℕ → Option ℕ → ℕ → ℕ
 limited most least size = cap (at_least least (at_most most size))
 
--- the used size along an axis, with the borders and paddings of both its sides. Without a basis a percentage is `auto`, as
--- a maximum it is none, and as a minimum 0 (10.2, 10.4, 10.5, 10.7)
+-- the used content size along an axis, `edges` being the borders and paddings of both sides. Without a basis a percentage counts as
+-- `auto`, as a maximum it counts as `none`, and as a minimum as 0 (10.2, 10.4, 10.5, 10.7)
 abbrev pub used_along : BoxSizing → ℕ → Option ℕ → LengthValue → LengthValue → Option LengthValue → ℕ → ℕ
 used_along sizing edges basis size least most automatic =
     limited
@@ -107,19 +106,20 @@ used_along sizing edges basis size least most automatic =
     (option_map (inner sizing edges) (against least basis))
     (unwrap_or (option_map (inner sizing edges) (against size basis)) automatic)
 
--- what insets on both sides leave of a containing block, less the margins, borders and paddings of both
+-- what is left of a containing block's size between the insets on both sides, less the margins, borders and paddings of both sides
 abbrev pub left_between : ℕ → Option ℤ → Option ℤ → ℕ → ℕ
 left_between containing one other around =
     at_least_zero (pos containing -ℤ unwrap_or one (pos 0) -ℤ unwrap_or other (pos 0) -ℤ pos around)
 
--- a block in flow fills its containing width. So does one out of flow, between its insets, of which `auto` counts as 0: that it does
--- where not both are given, and isn't shrunk to fit its content, is this project's own (10.3.3, 10.3.7)
+-- the `auto` width of a block: in flow it fills the width of its containing block; out of flow it fills the width between its insets,
+-- of which `auto` counts as 0 (10.3.3, 10.3.7). That it does so if not both insets are given, and isn't shrunk to fit, is this
+-- project's own
 abbrev pub block_width : Inputs → Sides (Option ℤ) → ℕ → ℕ
 block_width inputs insets around =
     cond (inputs.flow) (inputs.width - around) (left_between (inputs.width) (insets.left) (insets.right) around)
 
--- a block out of flow fills its containing height between its insets where both are given, any other one is as high as what is stacked
--- in it (10.6.3, 10.6.4)
+-- a block out of flow with both a top and a bottom inset fills the height of its containing block between them; any other block is as
+-- high as what is stacked in it (10.6.3, 10.6.4)
 abbrev pub is_stretched : Inputs → Sides (Option ℤ) → Bool
 is_stretched inputs insets = not (inputs.flow) && is_some (insets.top) && is_some (insets.bottom)
 
@@ -127,8 +127,8 @@ abbrev pub block_height : Inputs → Sides (Option ℤ) → ℕ → ℕ → ℕ
 block_height inputs insets inside around =
     cond (is_stretched inputs insets) (left_between (unwrap_or (inputs.height) 0) (insets.top) (insets.bottom) around) inside
 
--- images and frames have a size of their own (10.3.2, 10.6.2). No margin is `auto`, and one that 10.3.3 would ignore, where
--- the sizes do not add up, keeps its value, which moves no box
+-- images have their natural size, and frames are 300 by 150 pixels (10.3.2, 10.6.2). No margin is `auto`; one that 10.3.3 ignores
+-- because the values are over-constrained keeps its value here, which moves no box
 abbrev pub automatic_width : Kind → Inputs → Sides (Option ℤ) → ℕ → ℕ
 automatic_width BlockKind inputs insets around = block_width inputs insets around
 automatic_width (ImageKind width height) inputs insets around = width
@@ -180,7 +180,7 @@ box_with item inputs inside margin border padding =
       padding = padding;
     }
 
--- the box of an element at its inputs, `inside` being the sum of its children's margin box heights
+-- the box of an element with these inputs, `inside` being the sum of its children's margin box heights
 unfoldable pub computed : Item → Inputs → ℕ → Box
 computed item inputs inside =
     box_with
@@ -191,8 +191,8 @@ computed item inputs inside =
     (on_sides cap (item.style.border))
     (on_sides (used_side (inputs.width)) (item.style.padding))
 
--- whether the height doesn't hang on what is stacked in the box: it is given in pixels, or as a percentage of a definite height, or
--- found between insets (10.5, 10.6.4)
+-- whether the height doesn't depend on what is stacked in the box: it is given in pixels, or as a percentage of a definite height, or
+-- results from the insets (10.5, 10.6.4)
 abbrev pub has_definite_height : Item → Inputs → Bool
 has_definite_height item inputs =
     is_some (against (item.style.height) (inputs.height)) || is_stretched inputs (used_insets (item.style.inset) inputs)
@@ -201,12 +201,12 @@ abbrev pub inputs_inside : Item → Inputs → Box → Inputs
 inputs_inside item inputs box =
     record { width = box.width; height = cond (has_definite_height item inputs) (Some (box.height)) None; flow = true }
 
--- the inputs of an element's children in flow: its content width, and its content height where that is definite (10.1, 10.5)
+-- the inputs of an element's children in flow: its content width, and its content height if that is definite (10.1, 10.5)
 unfoldable pub child_inputs : Item → Inputs → Inputs
 unfolding computed
 child_inputs item inputs = inputs_inside item inputs (computed item inputs 0)
 
--- only in blocks do children have boxes
+-- only the children of blocks have boxes
 abbrev pub inner_children : Kind → List ℕ → List ℕ
 inner_children BlockKind children = children
 inner_children (ImageKind width height) children = []
@@ -227,7 +227,7 @@ is_passed node = node.item.style.hidden || not (is_in_flow node)
 unfoldable pub counted : (ℕ → Node) → (ℕ → Box) → ℕ → ℕ
 counted at box child = shown_height box child (is_passed (at child))
 
--- boxes are stacked downwards, and margins do not collapse (10.6.3 without 8.3.1)
+-- boxes are stacked from top to bottom, and margins don't collapse (10.6.3 without 8.3.1)
 unfoldable pub total : (ℕ → Node) → (ℕ → Box) → List ℕ → ℕ
 unfolding counted
 total at box children = cap (sum_by (counted at box) children)
@@ -242,12 +242,12 @@ unfolding computed box_at
 box_down zero at inputs n = computed ((at n).item) inputs 0
 box_down (suc deep) at inputs n = box_at at (box_down deep at) inputs (at n)
 
--- the box of a node at its inputs, with all that lies in it
+-- the box of a node with these inputs, computed with everything in it
 unfoldable pub box_in : (ℕ → Node) → Inputs → ℕ → Box
 unfolding box_down
 box_in at inputs n = box_down levels at inputs n
 
--- the inputs of a node out of flow whose box an element's box holds: the size of that one's padding box (10.1)
+-- the inputs of a node out of flow that an element's box holds: the size of that box's padding box (10.1)
 abbrev pub inputs_held : Box → Inputs
 inputs_held box = record { width = cap (padding_width box); height = Some (cap (padding_height box)); flow = false }
 
@@ -265,8 +265,8 @@ unfolding child_inputs box_in holder
 inputs_up zero at viewport n = viewport
 inputs_up (suc high) at viewport n = inputs_by at viewport (inputs_up high at viewport) (is_in_flow (at n)) (holder at n)
 
--- the inputs of a node in a viewport, if it has a box: those of its containing block (10.1). The page and the screen have the viewport's
--- size
+-- the inputs of a node in a viewport, provided that it has a box: those from its containing block (10.1). The page and the screen have
+-- the size of the viewport
 unfoldable pub inputs_at : (ℕ → Node) → Inputs → ℕ → Inputs
 unfolding inputs_up
 inputs_at at viewport n = inputs_up levels at viewport n
@@ -286,12 +286,12 @@ unfoldable pub has_box_in : (ℕ → Node) → ℕ → ℕ → Bool
 unfolding has_box_along path_of
 has_box_in at root n = has_box_along at root (path_of at n)
 
--- the inputs of a node in that tree, none without a box
+-- the inputs of a node in that tree, None if it has no box
 unfoldable pub inputs_in : (ℕ → Node) → ℕ → Inputs → ℕ → Option Inputs
 unfolding inputs_at has_box_in
 inputs_in at root viewport n = cond (has_box_in at root n) (Some (inputs_at at viewport n)) None
 
--- the box of a node in that tree, none where it has none
+-- the box of a node in that tree, if it has one
 unfoldable pub box_of_node : (ℕ → Node) → ℕ → Inputs → ℕ → Option Box
 unfolding inputs_in box_in
 box_of_node at root viewport n = option_map (λ inputs. box_in at inputs n) (inputs_in at root viewport n)

@@ -1,4 +1,4 @@
--- Which boxes clip what is in them, and which of those scroll (CSS Overflow 3, 3.1 and 3.3).
+-- Which boxes clip their content, and which of those are scroll containers (CSS Overflow 3, 3.1 and 3.3).
 use Rattle.std.specs.Prelude.{Bool, true, false, not, ◌&&◌, is_some}
 use Rattle.layout_model.specs.Styles.{Overflow, OverflowVisible, OverflowHidden, OverflowClip, OverflowScroll, OverflowAuto}
 use Rattle.layout_model.specs.Items.{Kind, BlockKind, ImageKind, FrameKind}
@@ -23,8 +23,8 @@ is_block BlockKind = true
 is_block (ImageKind width height) = false
 is_block FrameKind = false
 
--- whether a box clips its content, at its padding box. The overflow of a root element, which is one that has a box and no
--- parent, is the viewport's
+-- whether a box clips its content to its padding box. The `overflow` of a root element, which is one that has a box and no parent, is
+-- propagated to the viewport
 abbrev pub clips : Node → Bool
 clips node = is_block (node.item.kind) && not (is_visible (node.item.style.overflow)) && is_some (node.parent)
 

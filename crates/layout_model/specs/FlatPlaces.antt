@@ -1,5 +1,5 @@
--- Where border boxes stand in their document while nothing is scrolled (CSS 2.2, 9.4 and 10; CSS Positioned Layout 3, 2 and 3). All
--- numbers are units of 1/64 pixel, x to the right and y downwards.
+-- The positions of border boxes in their document when nothing is scrolled (CSS 2.2, 9.4 and 10; CSS Positioned Layout 3, 2 and 3).
+-- All numbers are units of 1/64 pixel, x to the right and y downwards.
 use Rattle.std.specs.Prelude.{ℕ, zero, suc, cond, ◌==◌, Option, Some, None, List, [], ◌∷◌, sum_by, ℤ, pos, neg_ℤ, ◌+ℤ◌, ◌-ℤ◌, unwrap_or}
 use Rattle.px_units.specs.Lengths.{cap, clamped}
 use Rattle.layout_model.specs.Styles.{Sides, Position, StaticPosition, RelativePosition, AbsolutePosition, FixedPosition}
@@ -14,18 +14,18 @@ unfoldable pub margin_corner : Inputs → Item → ℕ × ℕ
 margin_corner inputs item =
     capped (used_side (inputs.width) (item.style.margin.left), used_side (inputs.width) (item.style.margin.top))
 
--- the children that stand before a node
+-- the children before the first occurrence of a node
 unfoldable pub before : ℕ → List ℕ → List ℕ
 before n [] = []
 before n (c ∷ cs) = cond (c == n) [] (c ∷ before n cs)
 
--- the heights that are stacked above a child, at the inputs of children in flow
+-- the sum of the heights stacked above a child, with the inputs of children in flow
 unfoldable pub height_above : (ℕ → Node) → Inputs → Node → ℕ → ℕ
 unfolding counted box_in before
 height_above at inputs parent n = sum_by (counted at (box_in at inputs)) (before n (kids_of parent))
 
--- from the corner of a parent's border box to that of a child's, under so much height of its earlier siblings. The cap, on
--- the whole sum, is a bound of this project
+-- the offset from the corner of a parent's border box to that of a child's, `above` being the height of the child's earlier siblings.
+-- The cap, on the whole sum, is a bound of this project
 abbrev pub offset_with : Box → ℕ → Inputs → Item → ℕ × ℕ
 offset_with parent above inputs item =
     capped (plus (plus (inner_corner parent) (0, above)) (used_side (inputs.width) (item.style.margin.left), used_side (inputs.width) (item.style.margin.top)))
@@ -38,14 +38,14 @@ abbrev pub offset_from : (ℕ → Node) → View → ℕ → Option ℕ → ℕ 
 offset_from at view n None = margin_corner (inputs_under at view n) ((at n).item)
 offset_from at view n (Some p) = offset_in at (at p) (inputs_under at view p) (inputs_under at view n) n
 
--- from the corner of a parent's border box to where a node's own is in the flow, or would be, and for a root element from the
--- viewport's corner
+-- the offset from the corner of the parent's border box to the corner that a node's own border box has in the flow, or would have; for a
+-- root element, from the corner of the viewport
 unfoldable pub offset_of : (ℕ → Node) → View → ℕ → ℕ × ℕ
 unfolding computed child_inputs height_above margin_corner
 offset_of at view n = offset_from at view n (at n).parent
 
--- how far a relative box is moved along an axis, by the inset of its near side (left or top), else by that of the far one (CSS 2.2,
--- 9.4.3; CSS Positioned Layout 3, 3.3)
+-- how far a relatively positioned box is moved along an axis: by the inset of the near side (left or top), else by that of the far side
+-- (CSS 2.2, 9.4.3; CSS Positioned Layout 3, 3.3)
 abbrev pub shift_by : Option ℤ → Option ℤ → ℤ
 shift_by (Some near) far = near
 shift_by None (Some far) = neg_ℤ far
@@ -54,7 +54,7 @@ shift_by None None = pos 0
 abbrev pub shift_of : Sides (Option ℤ) → ℤ × ℤ
 shift_of insets = (shift_by (insets.left) (insets.right), shift_by (insets.top) (insets.bottom))
 
--- a box out of flow along an axis: the size of its containing block, the insets and margins of its near and far sides, and the size of
+-- a box out of flow along one axis: the size of its containing block, the insets and margins of its near and far sides, and the size of
 -- its border box
 pub record Along : Type 0 where
   pub containing : ℕ
@@ -90,8 +90,8 @@ inset_by None (Some far) it corner in_flow =
     corner +ℤ clamped (pos (it.containing) -ℤ far -ℤ pos (it.far_margin) -ℤ pos (it.border))
 inset_by None None it corner in_flow = in_flow
 
--- where it stands, its containing block being at `corner`: by the inset of the near side, else by that of the far one, else where it
--- would be in the flow (CSS 2.2, 10.3.7 and 10.6.4: static position)
+-- its position, with its containing block at `corner`: by the inset of the near side, else by that of the far side, else its static
+-- position, where it would be in the flow (CSS 2.2, 10.3.7 and 10.6.4: static position)
 abbrev pub placed_along : Along → ℤ → ℤ → ℤ
 placed_along it corner in_flow = inset_by it.near it.far it corner in_flow
 
@@ -103,7 +103,7 @@ placed_by inputs insets box corner in_flow =
 abbrev pub border_corner : Item → ℕ × ℕ
 border_corner item = (cap (item.style.border.left), cap (item.style.border.top))
 
--- the corner of the padding box of what holds a box; the page and the screen begin where the viewport does
+-- the corner of the padding box of what holds a box; for the page and the screen, the corner of the viewport
 abbrev pub corner_of : (ℕ → Node) → (ℕ → ℤ × ℤ) → Holder → ℤ × ℤ
 corner_of at flat (HeldByElement element) = moved (flat element) (border_corner ((at element).item))
 corner_of at flat HeldByPage = (pos 0, pos 0)
@@ -135,8 +135,8 @@ flat_up (suc high) at view n =
     (moved (above_of (flat_up high at view) (at n).parent) (offset_of at view n))
     (position_of (at n))
 
--- the place of a node's border box in its document's viewport, each scroll offset taken as 0: in flow its parent's with the node's own
--- offset, for a relative one moved by its insets; out of flow by its insets from its containing block
+-- the place of a node's border box in its document's viewport, with all scroll offsets taken as 0: in flow it is the parent's place plus
+-- the node's own offset, moved by the insets if it is relative; out of flow it is given by the insets and the containing block
 unfoldable pub flat_place : (ℕ → Node) → View → ℕ → ℤ × ℤ
 unfolding flat_up
 flat_place at view n = flat_up levels at view n

@@ -1,4 +1,4 @@
--- Trees of elements, seen as a function from numbers to nodes (DOM, 4.2.1: trees).
+-- Trees of elements, given as a function from numbers to nodes (DOM, 4.2.1: trees).
 use Rattle.std.specs.Prelude.{◌≡◌, ◌≢◌, ◌≤◌, ℕ, zero, suc, Bool, true, false, not, ◌||◌, ◌==◌, cond, is_some, Option, Some, None, List, [], ◌∷◌, find, flat_map, length, Contains, AllPairs}
 use Rattle.layout_model.specs.Styles.{first_style, Position, StaticPosition, RelativePosition, AbsolutePosition, FixedPosition}
 use Rattle.layout_model.specs.Items.{Item, BlockKind}
@@ -8,11 +8,11 @@ pub record Node : Type 0 where
   pub parent : Option ℕ
   pub children : List ℕ
 
--- what stands at a number that no element has
+-- the node of a number that no element has
 abbrev pub missing_node : Node
 missing_node = record { item = record { style = record first_style { hidden = true }; kind = BlockKind }; parent = None; children = [] }
 
--- how many levels below or above a node are looked at: more than a tree of the product can have, a bound of this project
+-- how many levels below or above a node are visited: more than a tree of the product can have, a bound of this project
 abbrev pub levels : ℕ
 levels = 65536
 
@@ -34,7 +34,7 @@ unfoldable pub ancestors_of : (ℕ → Node) → ℕ → List ℕ
 unfolding path_of
 ancestors_of at n = path_above (path_of at) (at n).parent
 
--- the number of elements on the path to the top (Resize Observer, 3.4: calculate depth for node)
+-- the number of elements on the path to the top, the node included (Resize Observer, 3.4: calculate depth for node)
 unfoldable pub depth_of : (ℕ → Node) → ℕ → ℕ
 unfolding path_of
 depth_of at n = length (path_of at n)
@@ -52,7 +52,7 @@ unfoldable pub last_of : ℕ → List ℕ → ℕ
 last_of n [] = n
 last_of n (m ∷ ms) = last_of m ms
 
--- the top of the tree that a node stands in
+-- the root of the tree that a node is in
 unfoldable pub top_of : (ℕ → Node) → ℕ → ℕ
 unfolding path_of last_of
 top_of at n = last_of n (path_of at n)
@@ -66,7 +66,7 @@ unfoldable pub tree_order : (ℕ → Node) → ℕ → List ℕ
 unfolding order_down
 tree_order at n = order_down levels at n
 
--- how a node is positioned. That a root element, which has no parent, counts as static is this project's own
+-- how a node is positioned. That a root element, which has no parent, is always static is this project's own
 abbrev pub position_of : Node → Position
 position_of node = cond (is_some (node.parent)) (node.item.style.position) StaticPosition
 
@@ -105,8 +105,8 @@ holder_by at n RelativePosition = held_by ((at n).parent)
 holder_by at n AbsolutePosition = held_by (find (λ a. is_positioned (at a)) (ancestors_of at n))
 holder_by at n FixedPosition = HeldByScreen
 
--- what holds a node's box (CSS 2.2, 10.1: containing block): in flow its parent's box, for an absolute one that of its nearest positioned
--- ancestor, for a fixed one the screen; the page for a root element, and for an absolute one without such an ancestor
+-- what holds a node's box (CSS 2.2, 10.1: containing block): in flow, the parent's box; for an absolutely positioned node, the box of its
+-- nearest positioned ancestor; for a fixed one, the screen; for a root element, and an absolute one without such an ancestor, the page
 unfoldable pub holder : (ℕ → Node) → ℕ → Holder
 unfolding ancestors_of
 holder at n = holder_by at n (position_of (at n))
@@ -121,8 +121,8 @@ is_screen (HeldByElement element) = false
 is_screen HeldByPage = false
 is_screen HeldByScreen = true
 
--- the nodes, each under the one whose box holds its own. Inputs, scroll offsets in force and chains of clips go up here; what is
--- displayed, depths and the flow go by the tree itself
+-- the nodes, each with the one whose box holds its own as parent. Inputs, scroll offsets in force and chains of clips follow these
+-- parents; display, depths and the flow follow those of the tree itself
 abbrev pub held : (ℕ → Node) → ℕ → Node
 held at n = record (at n) { parent = element_of (holder at n) }
 
@@ -131,7 +131,7 @@ unfoldable pub holders_of : (ℕ → Node) → ℕ → List ℕ
 unfolding ancestors_of holder
 holders_of at n = ancestors_of (held at) n
 
--- whether the outermost of them, or the node itself where there is none, is held by the screen
+-- whether the outermost of them, or the node itself if there is none, is held by the screen
 unfoldable pub is_on_screen : (ℕ → Node) → ℕ → Bool
 unfolding top_of holder
 is_on_screen at n = is_screen (holder at (top_of (held at) n))
@@ -140,14 +140,14 @@ is_on_screen at n = is_screen (holder at (top_of (held at) n))
 abbrev pub IsLinked : (ℕ → Node) → Type 0
 IsLinked at = (p c : ℕ) → Contains ((at p).children) c → (at c).parent ≡ Some p
 
--- each node with a parent stands among that one's children
+-- each node with a parent is among the parent's children
 abbrev pub IsListed : (ℕ → Node) → Type 0
 IsListed at = (c p : ℕ) → (at c).parent ≡ Some p → Contains ((at p).children) c
 
--- no tree has more levels than are looked at
+-- no tree has more levels than are visited
 abbrev pub IsShallow : (ℕ → Node) → Type 0
 IsShallow at = (n : ℕ) → depth_of at n ≤ levels
 
--- no child stands twice in its parent
+-- no child occurs twice among its parent's children
 abbrev pub IsDistinct : (ℕ → Node) → Type 0
 IsDistinct at = (p : ℕ) → AllPairs (λ a b. a ≢ b) ((at p).children)

@@ -1,4 +1,4 @@
--- Places of boxes in their document's viewport (CSS 2.2, 8.1, 9.4 and 10.1; CSSOM View: scrolling area). All numbers are units of
+-- The places of boxes in their document's viewport (CSS 2.2, 8.1, 9.4 and 10.1; CSSOM View: scrolling area). All numbers are units of
 -- 1/64 pixel, x to the right and y downwards.
 use Rattle.std.specs.Prelude.{ℕ, Bool, true, false, ℤ}
 use Rattle.layout_model.specs.Nodes.{Node, holders_of, is_on_screen}
@@ -7,7 +7,7 @@ use Rattle.layout_model.specs.Views.{View}
 use Rattle.layout_model.specs.FlatPlaces.{flat_place}
 use Rattle.layout_model.specs.Reach.{offset_in_force, view_in_force}
 
--- the viewport's scroll offset moves nothing that the screen holds
+-- the viewport's scroll offset, which doesn't move what the screen holds
 abbrev pub view_scroll : (ℕ → Node) → View → Bool → ℕ × ℕ
 view_scroll at view true = (0, 0)
 view_scroll at view false = view_in_force at view

@@ -8,15 +8,15 @@ plus a b = (a.0 + b.0, a.1 + b.1)
 abbrev pub minus : ℕ × ℕ → ℕ × ℕ → ℕ × ℕ
 minus a b = (a.0 - b.0, a.1 - b.1)
 
--- each at most the largest length
+-- each coordinate capped at the largest length
 abbrev pub capped : ℕ × ℕ → ℕ × ℕ
 capped point = (cap (point.0), cap (point.1))
 
--- no farther on either axis
+-- no greater on either axis
 abbrev pub IsWithin : ℕ × ℕ → ℕ × ℕ → Type 0
 IsWithin a b = (a.0 ≤ b.0) × (a.1 ≤ b.1)
 
--- a place, moved to the right and down, and back
+-- a place moved to the right and down, and back
 abbrev pub moved : ℤ × ℤ → ℕ × ℕ → ℤ × ℤ
 moved place by = (place.0 +ℤ pos (by.0), place.1 +ℤ pos (by.1))
 

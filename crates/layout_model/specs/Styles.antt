@@ -1,4 +1,4 @@
--- A style and what one declaration changes in it (CSS 2.2, 4 to 11; CSS Positioned Layout 3, 2 and 3).
+-- Styles, and what a declaration changes in one (CSS 2.2, 4 to 11; CSS Positioned Layout 3, 2 and 3).
 use Rattle.std.specs.Prelude.{ℕ, Bool, false, Option, None}
 use Rattle.px_units.specs.Lengths.{LengthValue, Automatic, Pixels, InsetValue, AutomaticInset}
 
@@ -6,7 +6,7 @@ pub data BoxSizing : Type 0 where
   ContentBox : BoxSizing
   BorderBox : BoxSizing
 
--- `hidden`, `scroll` and `auto` make scroll containers, `clip` only clips
+-- `hidden`, `scroll` and `auto` make a box a scroll container; `clip` only clips
 pub data Overflow : Type 0 where
   OverflowVisible : Overflow
   OverflowHidden : Overflow
@@ -28,7 +28,7 @@ pub record Sides (A : Type 0) : Type 0 where
   pub bottom : A
   pub left : A
 
--- borders are in units; a maximum of none is `none`; the insets are the properties `top`, `right`, `bottom` and `left`
+-- borders are in units; a maximum of None is `none`; the insets are the properties `top`, `right`, `bottom` and `left`
 pub record Style : Type 0 where
   pub hidden : Bool
   pub width : LengthValue
@@ -45,7 +45,7 @@ pub record Style : Type 0 where
   pub position : Position
   pub inset : Sides InsetValue
 
--- the sides that one declaration sets: all four for a shorthand
+-- the side that a declaration sets; all four for a shorthand
 pub data Side : Type 0 where
   TopSide : Side
   RightSide : Side
@@ -75,7 +75,7 @@ pub data Declaration : Type 0 where
 abbrev pub all_four : {A : Type 0} → A → Sides A
 all_four value = record { top = value; right = value; bottom = value; left = value }
 
--- the sides with one of them, or all, set
+-- the sides with one of them, or all four, set
 abbrev pub with_side : {A : Type 0} → Side → A → Sides A → Sides A
 with_side TopSide value sides = record sides { top = value }
 with_side RightSide value sides = record sides { right = value }
@@ -83,7 +83,7 @@ with_side BottomSide value sides = record sides { bottom = value }
 with_side LeftSide value sides = record sides { left = value }
 with_side AllSides value sides = all_four value
 
--- the style of an element that was just made
+-- the style of a newly created element
 abbrev pub first_style : Style
 first_style = record {
   hidden = false;
@@ -102,7 +102,7 @@ first_style = record {
   inset = all_four AutomaticInset;
 }
 
--- the style once a declaration is set
+-- the style with a declaration applied
 abbrev pub declared : Declaration → Style → Style
 declared (SetDisplay hidden) style = record style { hidden = hidden }
 declared (SetWidth value) style = record style { width = value }

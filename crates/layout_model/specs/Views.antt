@@ -20,7 +20,7 @@ view_inputs view = record { width = view.width; height = Some (view.height); flo
 abbrev pub inputs_under : (ℕ → Node) → View → ℕ → Inputs
 inputs_under at view n = inputs_at at (view_inputs view) n
 
--- the same, none without a box
+-- the same, None if it has no box
 unfoldable pub inputs_in_view : (ℕ → Node) → View → ℕ → Option Inputs
 unfolding inputs_in
 inputs_in_view at view n = option_and_then (λ root. inputs_in at root (view_inputs view) n) (view.root)

@@ -1,4 +1,4 @@
--- What the definitions give for the resize loop of the top document, once the items of a script were run.
+-- What the definitions give for the resize loop of the top document after the items of a script have been run.
 use Rattle.std.specs.Prelude.{ℕ, List, [], map, flat_map, length, Ok, Err}
 use Rattle.script_model.specs.Scripts.{handlers_in}
 use Rattle.script_model.specs.Reading.{Reading, reading}
@@ -10,7 +10,7 @@ use Rattle.loop_laws.specs.Rounds.{round_depth}
 use Rattle.loop_laws.specs.Uprooting.{uprootings}
 use Rattle.loop_laws.specs.WholeLoops.{round_starts, delivered_depths}
 
--- of each round the depth, how many commands it carries out and how many of them uproot; and the depths of all that is delivered
+-- for each round its depth, how many commands it runs and how many of them uproot; and the depths of everything that is delivered
 pub record SeenLoop : Type 0 where
   pub depths : List ℕ
   pub commands : List ℕ

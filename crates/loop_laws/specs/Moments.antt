@@ -1,5 +1,5 @@
--- The moments of a run: each command that begins, with the world in which it is carried out. They are read off the runs of
--- page_model, whose steps give each world; what a command does stands nowhere here.
+-- The moments of a run: each command that begins, with the world in which it is run. They are taken from the runs of page_model, whose
+-- steps give each world; what a command does isn't defined again here.
 use Rattle.std.specs.Prelude.{ℕ, suc, zero, Bool, true, false, ◌&&◌, nat_lt, List, [], ◌∷◌, ◌++◌, map, length, Option, Some, None}
 use Rattle.script_model.specs.Syntax.{Command, Simple, Each, When, Block, NoMore, Then}
 use Rattle.page_model.specs.World.{World, Observation}
@@ -13,13 +13,13 @@ use Rattle.page_model.specs.Runs.{Flow, Next, Thrown, Limited, Said, Turn, lifte
 use Rattle.page_model.specs.Callbacks.{Script, Entries, SizeEntries, run_command, run_block, call, presents, handler_block}
 use Rattle.page_model.specs.Loop.{Broadcast, deliver_some}
 
--- a command that is carried out, the entry that its `each` is at, and the world then, in which it was counted already
+-- a command that is run, the current entry, and the world at that moment, in which the command is already counted
 pub record Moment : Type 0 where
   pub world : World
   pub present : Present
   pub command : Command
 
--- what is listed of the rest of a run: nothing behind a throw or a limit
+-- what is listed for the rest of a run: nothing after a throw or a limit
 unfoldable pub onward : {A S : Type 0} → Flow → (S → List A) → S → List A
 onward Next rest state = rest state
 onward Thrown rest state = []
@@ -62,7 +62,7 @@ along_places count goes_on list step state =
 unfoldable mutual
   unfolding onward along_each run_command holds begun_in
 
-  -- a command with those in its block
+  -- the moments of a command and of those in its block
   pub command_moments : Script → List Present → Command → Present → World → List Moment
   command_moments script entries (Simple line action) present world =
       where_did (begun_in world) λ begun. record { world = begun; present = present; command = Simple line action } ∷ []
@@ -85,7 +85,7 @@ abbrev pub handler_moments : Script → Entries → Option ℕ → World → Lis
 handler_moments script handed None world = []
 handler_moments script handed (Some handler) world = block_moments script (presents handed) (handler_block script handler) NoEntry world
 
--- the commands that a callback carries out
+-- the commands that a callback runs
 unfoldable pub call_moments : Script → ℕ → Option ℕ → Entries → World → List Moment
 unfolding command_moments
 call_moments script document handler handed world = listed_if (handler_moments script handed handler) world (is_active (world.tree) document)
@@ -98,7 +98,7 @@ delivery_moments script document observer so_far (first ∷ others) =
     (SizeEntries observer (map (size_entry (sight_of before)) (first ∷ others)))
     (record before { resize_observers = with_reported (sight_of before) observer (first ∷ others) (before.resize_observers) })
 
--- the commands that the callbacks of a broadcast carry out
+-- the commands that the callbacks of a broadcast run
 unfoldable pub broadcast_moments : Script → ℕ → World → List Moment
 unfolding along_places call_moments call
 broadcast_moments script document world =

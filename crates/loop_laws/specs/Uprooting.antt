@@ -1,4 +1,4 @@
--- Which commands of a round uproot what was gathered in it: those that take an inclusive ancestor of it out of its parent.
+-- Which commands of a round uproot a target gathered for it: those that take an inclusive ancestor of the target out of its parent.
 use Rattle.std.specs.Prelude.{ℕ, Bool, false, ◌&&◌, cond, List, [], map, flat_map, count_by, Option, Some, None, is_some}
 use Rattle.std.specs.List.{list_any}
 use Rattle.script_model.specs.Syntax.{Action, Append, Before, Remove, Operand, Command, Simple, Each, When}
@@ -28,8 +28,8 @@ comes_to (Met limit) test = false
 abbrev pub stands_above : Tree → List ℕ → ℕ → Bool
 stands_above tree targets n = is_some (element_at tree n).parent && list_any (is_inclusive_ancestor tree n) targets
 
--- whether an action takes effect and takes an inclusive ancestor of one of these targets out of its parent, as the tree is before. To
--- move an element that has none, one that stands nowhere or is a root element, makes no depth less, and so doesn't count
+-- whether an action takes effect and takes an inclusive ancestor of one of these targets, in the tree as it is before, out of its parent.
+-- Moving an element without a parent, whether it is a root element or in no tree yet, decreases no depth, and so doesn't count
 abbrev pub lifts : Script → List ℕ → Moment → Action → Option Operand → Bool
 lifts script targets now action None = false
 lifts script targets now action (Some node) =
@@ -45,7 +45,7 @@ unfoldable pub uproots : Script → List ℕ → Moment → Bool
 unfolding does is_inclusive_ancestor
 uproots script targets now = uproots_by script targets now (now.command)
 
--- the targets that wait to be delivered to a document's observers
+-- the active targets of a document's observers
 abbrev pub targets_of : ℕ → List ResizeObserver → List ℕ
 targets_of document made =
     flat_map (λ (observer : ResizeObserver). cond (is_of document observer) (map (λ (it : Observation). it.target) (observer.active)) []) made
@@ -53,7 +53,7 @@ targets_of document made =
 abbrev pub gathered_targets : ℕ → World → List ℕ
 gathered_targets document world = targets_of document (world.resize_observers.made)
 
--- how many commands of a round uproot what was gathered in it; the round begins in this world
+-- how many commands of the round that begins in this world uproot a target gathered for it
 unfoldable pub uprootings : Script → ℕ → World → ℕ
 unfolding uproots broadcast_moments
 uprootings script document world = count_by (uproots script (gathered_targets document world)) (broadcast_moments script document world)

@@ -1,4 +1,4 @@
--- All rounds of a resize loop, with what they deliver, and the error behind them (Resize Observer, 3.4).
+-- All rounds of a resize loop, with what they deliver, and the error after them (Resize Observer, 3.4).
 use Rattle.std.specs.Prelude.{◌≡◌, ◌<◌, ◌≤◌, ◌*◌, ℕ, suc, Bool, cond, ◌&&◌, List, [], ◌∷◌, map, fold, max, length, sum_by, flat_map, None, ⊤}
 use Rattle.std.specs.List.{list_any}
 use Rattle.text_io.specs.declared.kinds.EventKind.TheVariants as events
@@ -14,25 +14,25 @@ use Rattle.loop_laws.specs.Moments.{onward, following, along_repeat, along_place
 use Rattle.loop_laws.specs.Rounds.{goes_on, rounds_up_to, round_depth}
 use Rattle.loop_laws.specs.Uprooting.{uprootings}
 
--- the rounds of a loop, without the error behind them
+-- the rounds of a loop, without the error after them
 unfoldable pub resize_rounds : Script → ℕ → World → Said World
 unfolding rounds_up_to gather
 resize_rounds script document world = rounds_up_to most_steps script document (gather document 0 world)
 
--- the worlds in which the rounds of a loop begin, each gathered already. The last one may be broken off, which writes no line
+-- the worlds in which the rounds of a loop begin, after gathering. The last round may be cut short, and then writes no line
 unfoldable pub round_starts : Script → ℕ → World → List World
 unfolding along_repeat broadcast gather
 round_starts script document world =
     along_repeat (goes_on document) (λ now. now ∷ []) (round script document) most_steps (gather document 0 world)
 
--- the line of a round, with its depth: none where it was broken off, by a limit or as its document wasn't Active any more
+-- the line of a round, with its depth; none if the round was cut short, by a limit or because its document wasn't Active any more
 unfoldable pub line_of_round : Script → ℕ → World → List TraceLine
 unfolding onward broadcast round_depth
 line_of_round script document start =
     following (broadcast script document start) (λ (so_far : Broadcast).
     cond (is_active (so_far.world.tree) document) (RoundLine (document_text (so_far.world.names) document) (round_depth script document start) ∷ []) [])
 
--- the depths of the targets that a round delivers, each as it is then
+-- the depths of the targets that a round delivers, each at the moment of its delivery
 unfoldable pub delivered_depths : Script → ℕ → World → List ℕ
 unfolding along_places call element_depth
 delivered_depths script document world =
@@ -47,15 +47,15 @@ delivered_depths script document world =
 abbrev pub greatest : List ℕ → ℕ
 greatest depths = fold max 0 depths
 
--- each round is deeper than the one before, or a command of it uproots what was gathered in it
+-- each round is deeper than the one before, or one of its commands uproots a target gathered for it
 abbrev pub GoesDeeper : Script → ℕ → ℕ → List World → Type 0
 GoesDeeper script document before [] = ⊤
 GoesDeeper script document before (start ∷ others) =
     (uprootings script document start ≡ 0 → before < round_depth script document start)
     × GoesDeeper script document (round_depth script document start) others
 
--- with m commands that uproot in all, and the greatest depth H of what is delivered, a loop has at most (m + 1) * H rounds, one that
--- is broken off counted
+-- with m uprooting commands in all its rounds, and H the greatest depth of what is delivered, a loop has at most (m + 1) * H rounds,
+-- including one that is cut short
 abbrev pub HasFewRounds : Script → ℕ → World → Type 0
 HasFewRounds script document world =
     length (round_starts script document world)

@@ -1,5 +1,5 @@
--- What the definitions give of a script's text: the lines that stand against each certificate, the depths of its loops, and how many
--- error lines its trace has.
+-- What the definitions give for a script's text: the lines that rule out each certificate, the depths of its loops, and how many error
+-- lines its trace has.
 use Rattle.std.specs.Prelude.{ℕ, List, [], map, count_by, Ok, Err}
 use Rattle.script_model.specs.Scripts.{handlers_in}
 use Rattle.script_model.specs.Reading.{Reading, reading}

@@ -1,4 +1,4 @@
--- What a certificate promises of every run of every script that has these handlers, whatever else it holds (this project's own).
+-- What a certificate promises for every run of every script that has these handlers, whatever else is in it (this project's own).
 use Rattle.std.specs.Prelude.{◌≡◌, ℕ, false, List, Ok}
 use Rattle.std.specs.List.{AllByRecursion}
 use Rattle.text_io.specs.declared.kinds.Version.{Version}
@@ -23,7 +23,7 @@ RunsQuietly items =
     (text : List ℕ) (other : Script) → reading text ≡ Ok other → HasHandlersOf items (other.items) →
     AllByRecursion (λ line. is_error_line line ≡ false) (outcome text).lines
 
--- what a script's handlers promise where they keep a law
+-- what is promised if the handlers of a script keep a law
 abbrev pub Promises : Law → List Item → Type 0
 Promises law.Steady items = RunsSteadily items
 Promises law.Quiet items = RunsQuietly items

@@ -10,7 +10,7 @@ moves (Before parent node sibling) = true
 moves (Remove node) = true
 moves action = false
 
--- these, those that can change a size, and the one that makes an observation
+-- the commands that can move an element, those that can change a size, and the one that makes an observation
 abbrev pub disturbs : Action → Bool
 disturbs (Viewport width height) = true
 disturbs (SetRatio hundredths) = true
@@ -20,12 +20,12 @@ disturbs (Load node width height) = true
 disturbs (ObserveResize observer node observed) = true
 disturbs action = moves action
 
--- no loop handler holds a command that can move an element
+-- no loop handler contains a command that can move an element
 unfoldable pub is_steady : List Item → Bool
 unfolding loop_handler_lines
 is_steady items = is_empty (loop_handler_lines moves items)
 
--- no loop handler holds one of these or one that can change a size or makes an observation
+-- no loop handler contains a command that can move an element, can change a size or makes an observation
 unfoldable pub is_quiet : List Item → Bool
 unfolding loop_handler_lines
 is_quiet items = is_empty (loop_handler_lines disturbs items)

@@ -3,7 +3,7 @@
 use Rattle.std.specs.Prelude.{ℕ, ◌+◌, ◌*◌, ◌/◌, ◌%◌, cond, ◌==◌, List, ◌∷◌, ◌++◌, codes}
 use Rattle.word_model.specs.Numbers.{decimal}
 
--- the least number of tenths of a pixel that isn't below a length
+-- the smallest number of tenths of a pixel that isn't less than a length
 abbrev pub tenths_of : ℕ → ℕ
 tenths_of units = (units * 10 + 63) / 64
 
@@ -26,7 +26,7 @@ unfolding decimal
 hundredths_text hundredths =
     decimal (hundredths / 100) ++ (46 ∷ last_digit (hundredths / 10) ∷ last_digit hundredths ∷ codes "px")
 
--- whole pixels where there is no rest; tenths where they are cut to just this length; else hundredths, which always are
+-- whole pixels if there is no remainder; else tenths, if they round down to exactly this length; else hundredths, which always do
 unfoldable pub length_text : ℕ → List ℕ
 unfolding decimal tenths_text hundredths_text
 length_text units =

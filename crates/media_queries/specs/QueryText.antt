@@ -1,6 +1,5 @@
--- How media query lists are printed: with one space for each gap, with no other space, and with each length as its
--- shortest text. A list keeps what stands before a media type, so it holds all that is printed. This form is this
--- project's own choice.
+-- How media query lists are printed: with one space wherever a space is required, with no other space, and with the shortest text for each
+-- length. A list keeps what comes before a media type, so it contains all that is printed. This form is this project's own choice.
 use Rattle.std.specs.Prelude.{ℕ, Bool, true, false, List, [], ◌∷◌, ◌++◌, codes}
 use Rattle.script_model.specs.Queries.{Comparison, Exactly, AtLeast, AtMost, Feature, WidthFeature, HeightFeature, OrientationFeature, MediaType, AllMedia, ScreenMedia, PrintMedia, Prefix, NoPrefix, NotPrefix, OnlyPrefix, MediaQuery, Typed, NotFeature, AllFeatures, AnyFeatures}
 use Rattle.media_queries.specs.LengthText.{length_text}
@@ -22,7 +21,7 @@ feature_text (HeightFeature compared units) =
     codes "(" ++ (comparison_text compared ++ (codes "height:" ++ (length_text units ++ codes ")")))
 feature_text (OrientationFeature portrait) = codes "(orientation:" ++ (orientation_text portrait ++ codes ")")
 
--- features behind this word and the gaps around it
+-- features, each after this word with a space on both sides
 unfoldable pub joined_text : List ℕ → List Feature → List ℕ
 unfolding feature_text
 joined_text joint [] = []

@@ -1,4 +1,4 @@
--- What the types of the code stand for, and how what a reader answers is seen.
+-- What the types of the code and the results of its readers stand for.
 use Rattle.std.specs.Prelude.{◌≡◌, ℕ, true, false, List, length, map, take, Result, Ok, Err}
 use Rattle.std.specs.Borrow.{Bor}
 use Rattle.script_model.specs.Readers.{◌>>=◌}
@@ -59,7 +59,7 @@ query_of (NotFeature feature) = AskedNot (feature_of feature)
 query_of (Every first others) = AllFeatures (feature_of first) (map feature_of others.items)
 query_of (Either first second others) = AnyFeatures (feature_of first) (feature_of second) (map feature_of others.items)
 
--- the query behind a comma with the space around it
+-- the query after a comma, with the spaces and tabs around the comma
 abbrev pub next_of : List ℕ → Read Asked
 next_of text = byte_at 44 (skip text) >>= λ rest. query_at (skip rest)
 
@@ -73,7 +73,7 @@ abbrev pub read_of : {A B : Type 0} → (A → B) → Result (A × Bor (List ℕ
 read_of seen (Ok read) = Ok (seen read.0, read.1.now)
 read_of seen (Err stopped) = Err stopped.left
 
--- a reader that takes memory answers exactly this; want of memory is free
+-- a reader that allocates memory gives exactly this result, unless memory runs out
 abbrev pub Reads : {A B : Type 0} → (A → B) → Result (A × Bor (List ℕ)) ReadFault → Read B → Type 0
 Reads seen (Ok read) answer = answer ≡ Ok (seen read.0, read.1.now)
 Reads seen (Err (At stopped)) answer = answer ≡ Err stopped.left
@@ -85,12 +85,12 @@ ReadsAll seen (Ok value) answer = answer ≡ Ok (seen value)
 ReadsAll seen (Err (At stopped)) answer = answer ≡ Err stopped.left
 ReadsAll seen (Err Memory) answer = Unit {0}
 
--- what a text gives is exactly this; want of memory is free
+-- what a text gives is exactly this, unless memory runs out
 abbrev pub Parses : Result (List Asked) QueryFault → Result (List Asked) ℕ → Type 0
 Parses (Ok queries) answer = answer ≡ Ok queries
 Parses (Err (BadQuery column)) answer = answer ≡ Err column
 Parses (Err NoMemory) answer = Unit {0}
 
--- what stood in a list still begins it
+-- the old list is the beginning of the new one
 abbrev pub Keeps : List ℕ → List ℕ → Type 0
 Keeps old new = take (length old) new ≡ old

@@ -1,4 +1,4 @@
--- Limits that every world of a run keeps, and that no loop over a list by place is cut off by the bound that its recursion has.
+-- The limits that every world of a run is within, and that no loop over a list by index is cut off by the bound on its recursion.
 use Rattle.std.specs.Prelude.{ℕ, suc, ◌≤◌, ◌&&◌, nat_lt, Bool, not, List, length, count_by}
 use Rattle.text_io.specs.Limits.{limit_number}
 use Rattle.text_io.specs.declared.kinds.LimitKind.TheVariants as limits
@@ -6,25 +6,25 @@ use Rattle.page_model.specs.World.{Task, World}
 use Rattle.page_model.specs.Tasks.{is_posted, posted_tasks}
 use Rattle.page_model.specs.Runs.{Said, at_place, lifted, repeat}
 
--- the notify tasks that wait
+-- the number of notify tasks that are queued
 abbrev pub notify_tasks : List Task → ℕ
 notify_tasks tasks = count_by (λ task. not (is_posted task)) tasks
 
--- the posted tasks that wait are as many as the limit allows, and a notify task waits for no document that isn't marked
+-- there are no more documents, marks and posted tasks than the limits allow, and no more notify tasks than documents that are marked
 pub record AreTasksWithin (world : World) : Type 0 where
   pub documents : length world.tree.documents ≤ limit_number (world.version) limits.Documents
   pub marks : length world.notifying ≤ limit_number (world.version) limits.Documents
   pub posted : posted_tasks world.tasks ≤ limit_number (world.version) limits.Tasks
   pub notifying : notify_tasks world.tasks ≤ count_by (λ marked. marked) world.notifying
 
--- as many of the things that a tick goes over by place as the limits allow, as many commands begun and as many tasks
+-- there are no more of the things that a tick iterates over by index, no more commands begun and no more tasks than the limits allow
 pub record IsWithinLimits (world : World) : Type 0 where
   pub resize_observers : length world.resize_observers.made ≤ limit_number (world.version) limits.ResizeObservers
   pub queries : length world.queries ≤ limit_number (world.version) limits.Queries
   pub commands : world.begun ≤ limit_number (world.version) limits.Commands
   pub tasks : AreTasksWithin world
 
--- `by_place` with another bound on its turns
+-- `by_place` with a given bound on its turns
 unfoldable pub places_up_to : {S : Type 0} → ℕ → (S → ℕ) → (S → Bool) → (ℕ → S → Said S) → S → Said S
 unfolding repeat
 places_up_to most count goes_on step state =

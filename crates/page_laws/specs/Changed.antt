@@ -1,5 +1,5 @@
--- What a command changes: one part of the world, or one part and the names; and what is known of its operands then. `Known` is what holds
--- of the things that they mean.
+-- What a command changes: one part of the world, or one part and the names, and for a new intersection observer its scroll margins; and
+-- what is then known about its operands. `Known` is what holds for the things that they refer to.
 use Rattle.std.specs.Prelude.{◌≡◌, ℕ, ℤ, ◌<◌, Bool, List, length, Option, Some, None, IfSome, ⊤}
 use Rattle.px_units.specs.declared.BoxKind.{BoxKind}
 use Rattle.layout_model.specs.Items.{Item, Kind}
@@ -20,7 +20,7 @@ use Rattle.page_model.specs.Tasks.{posted_tasks, with_task}
 use Rattle.page_model.specs.Steps.{Did}
 use Rattle.page_model.specs.Commands.{placing}
 
--- the things that operands mean
+-- the things that operands refer to
 
 abbrev pub container_thing : Container → Thing
 container_thing (InElement n) = ElementThing n
@@ -46,7 +46,7 @@ IsFrameCallbackOf Known handlers it = Known (DocumentThing (it.document)) × it.
 abbrev pub IsTimerOf : (Thing → Type 0) → ℕ → Timer → Type 0
 IsTimerOf Known handlers it = Known (DocumentThing (it.document)) × it.handler < handlers
 
--- nothing is asked of them
+-- nothing is required of them
 abbrev pub AnyThing : Thing → Type 0
 AnyThing thing = ⊤
 
@@ -69,7 +69,7 @@ pub data IntersectionChange (Known : Thing → Type 0) (before : IntersectionObs
   AllUnregistered : (observer : ℕ) → IntersectionChange Known before (without_registrations observer before)
   QueueTaken : (observer : ℕ) → IntersectionChange Known before (without_queue observer before)
 
--- an entry more, of which something holds, or those that pass a test
+-- a table with one more entry, for which `Holds` is true, or with only the entries that pass a test
 pub data TableChange (A : Type 0) (Holds : A → Type 0) (before : Table A) : Table A → Type 0 where
   Entered : (make : ℕ → A) → Holds (make (before.given)) → TableChange A Holds before (entered make before)
   Kept : (test : A → Bool) → TableChange A Holds before (kept test before)

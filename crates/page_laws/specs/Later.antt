@@ -1,11 +1,11 @@
--- What stays in the worlds of a run, and what only grows.
+-- What stays the same in the worlds of a run, and what only grows.
 use Rattle.std.specs.Prelude.{◌≡◌, ◌≤◌, ℕ, IsTrue, List, Some, length}
 use Rattle.page_model.specs.World.{DocumentState, Thing, World}
 use Rattle.page_model.specs.Names.{named_thing}
 use Rattle.page_laws.specs.Successors.{came_to}
 
--- a world later in a run: no element is taken out, documents don't go back, so a Dead one stays Dead, names go on to name the
--- same things, neither the clock nor the count of commands falls, and the version stays
+-- a world later in a run: there are no fewer elements, document states don't go back, so a Dead document stays Dead, names still refer to
+-- the same things, neither the clock nor the count of commands decreases, and the version stays the same
 pub record IsLater (before now : World) : Type 0 where
   pub elements : length before.tree.elements ≤ length now.tree.elements
   pub states : (wanted : DocumentState) (document : ℕ) → IsTrue (came_to wanted before.tree document) → IsTrue (came_to wanted now.tree document)

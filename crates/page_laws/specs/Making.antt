@@ -1,4 +1,4 @@
--- What the making of elements and documents leaves of the boxes.
+-- How the boxes are kept when elements and documents are created.
 use Rattle.std.specs.Prelude.{◌≡◌, ◌<◌, ℕ, length, IfSome}
 use Rattle.std.specs.List.{AllByRecursion}
 use Rattle.page_model.specs.World.{Screen, Tree}

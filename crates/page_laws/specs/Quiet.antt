@@ -4,8 +4,8 @@ use Rattle.page_model.specs.World.{Document, World}
 use Rattle.page_model.specs.Viewports.{differs_from, noted_size}
 use Rattle.page_model.specs.Scrolls.{pending_of}
 
--- the top document alone, nothing pending, its viewport of the size that the resize steps noted or of one that they are
--- still to note, and no observers, query lists, callbacks, timers and tasks; it may have elements and listeners
+-- there is only the top document, without pending scroll events; the resize steps have noted the size that its viewport has now, or none
+-- yet; and there are no observers, query lists, frame callbacks, timers and tasks. There may be elements and listeners
 pub record IsQuiet (world : World) : Type 0 where
   pub top : Document
   pub alone : world.tree.documents ≡ top ∷ []

@@ -1,13 +1,13 @@
--- What a tick asks of a page, and what each call of a page leaves.
+-- What a tick requires of a page, and what each call of a page leaves true.
 use Rattle.std.specs.Prelude.{ℕ, ◌∷◌}
 use Rattle.page_model.specs.World.{Task, World}
 use Rattle.page_model.specs.Ranges.{IsInRange}
 use Rattle.page_laws.specs.Bounds.{IsWithinLimits}
 
--- each number in the world is that of something, a handler's that of one of so many, and the limits on what is gone over by place are kept
+-- each number in the world refers to something that exists, there being so many handlers, and the world is within its limits
 unfoldable pub IsReadyFor : ℕ → World → Type 0
 IsReadyFor handlers world = IsInRange handlers world × IsWithinLimits world
 
--- a world in which a task waits before all others
+-- a world with a task queued before all others
 abbrev pub with_first : Task → World → World
 with_first task world = record world { tasks = task ∷ world.tasks }

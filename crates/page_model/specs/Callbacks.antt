@@ -1,5 +1,5 @@
--- Callbacks and events: how a handler's commands are run (WebIDL, invoking callbacks; DOM, 2.9 and 2.10). What a
--- handler is, and that a callback isn't invoked where its document isn't Active, is this project's own.
+-- Invoking callbacks and firing events: how a handler's commands are run (WebIDL, invoking callbacks; DOM, 2.9 and 2.10). What a
+-- handler is, and that no callback is invoked for a document that isn't Active, are this project's own.
 use Rattle.std.specs.Prelude.{ℕ, ◌+◌, List, [], ◌∷◌, map, slice_get, Option, Some, None, option_map, unwrap_or, pos}
 use Rattle.text_io.specs.declared.kinds.EventKind.{EventKind}
 use Rattle.text_io.specs.declared.kinds.EventKind.TheVariants as events
@@ -22,7 +22,7 @@ use Rattle.page_model.specs.Listeners.{listeners_of, listener_stands}
 use Rattle.page_model.specs.Commands.{does, holds, begun_in}
 use Rattle.page_model.specs.Runs.{Said, Thrown, Limited, silent, say, ◌followed_by◌, for_each, caught, only_if}
 
--- the handlers of a script: a handler's number is its place
+-- the handlers of a script; a handler's number is its index
 abbrev pub Script : Type 0
 Script = List NamedBlock
 
@@ -35,18 +35,18 @@ handler_block script handler = unwrap_or (option_map (λ (it : NamedBlock). it.b
 abbrev pub handler_text : Script → ℕ → List ℕ
 handler_text script handler = unwrap_or (option_map (λ (it : NamedBlock). it.name) (slice_get script handler)) []
 
--- what a callback is given
+-- the entries that a callback is invoked with
 pub data Entries : Type 0 where
   NoEntries : Entries
   SizeEntries : (observer : ℕ) (entries : List SizeEntry) → Entries
   CutEntries : (observer : ℕ) (entries : List Entry) → Entries
 
--- a size in device pixels is told in the second version alone
+-- a size in device pixels is reported by version 2 only
 abbrev pub device_told : Version → Extent → Option Size
 device_told First size = None
 device_told Second size = Some (record { width = pos (size.across); height = pos (size.down) })
 
--- the entry's content rectangle, border box and device pixels
+-- the trace line of an entry: its content rectangle, border box size and size in device pixels
 abbrev pub resize_line : Version → List Name → ℕ → SizeEntry → TraceLine
 resize_line version names observer entry =
     ResizeLine
@@ -66,13 +66,13 @@ entry_lines version names NoEntries = []
 entry_lines version names (SizeEntries observer entries) = map (resize_line version names observer) entries
 entry_lines version names (CutEntries observer entries) = intersection_lines names observer entries
 
--- what `each` goes over
+-- what `each` iterates over
 abbrev pub presents : Entries → List Present
 presents NoEntries = []
 presents (SizeEntries observer entries) = map (λ (entry : SizeEntry). ResizeEntry (entry.target)) entries
 presents (CutEntries observer entries) = map (λ (entry : Entry). IntersectionEntry (entry.target) (entry.finding.meets)) entries
 
--- what a command's step comes to, on the command's line, and how it goes on with the value
+-- continues with the value of a command's step, or reports its exception or limit with the command's line number
 unfoldable pub answered : {A : Type 0} → ℕ → World → (A → Said World) → Step A → Said World
 answered line world next (Did value) = next value
 answered line world next (Threw exception) = record { lines = ThrowLine line exception ∷ []; flow = Thrown; state = world }
@@ -81,7 +81,7 @@ answered line world next (Met limit) = record { lines = LimitLine limit line (li
 abbrev pub said_by : Effect → Said World
 said_by effect = say (effect.lines) (effect.world)
 
--- a command is begun, which is counted, before anything else is looked at
+-- counts a command as begun, before anything else about it is checked
 unfoldable pub once_begun : ℕ → World → (World → Said World) → Said World
 unfolding answered begun_in
 once_begun line world run = answered line world run (begun_in world)
@@ -89,7 +89,7 @@ once_begun line world run = answered line world run (begun_in world)
 unfoldable mutual
   unfolding answered once_begun for_each ◌followed_by◌ does holds
 
-  -- a command in a callback with these entries, `present` being the one that the innermost `each` is at
+  -- runs a command of a callback that has these entries; `present` is the current entry of the innermost `each`
   pub run_command : Script → List Present → Command → Present → World → Said World
   run_command script entries (Simple line action) present world =
       once_begun line world λ begun. answered line begun said_by (does (handler_names script) begun present action)
@@ -104,7 +104,7 @@ unfoldable mutual
   run_block script entries (Then command others) present world =
       run_command script entries command present world followed_by run_block script entries others present
 
--- a handler with the entries of its callback; a throw ends it
+-- runs a handler with the entries of its callback; a throw ends the handler only
 abbrev pub run_handler : Script → Entries → Option ℕ → World → Said World
 run_handler script handed None world = silent world
 run_handler script handed (Some handler) world =
@@ -113,7 +113,7 @@ run_handler script handed (Some handler) world =
 abbrev pub while_active : ℕ → (World → Said World) → World → Said World
 while_active document run world = only_if run world (is_active (world.tree) document)
 
--- invoking a callback that belongs to a document
+-- invokes a callback of a document, if the document is Active: first the lines of the entries are written, then the handler is run
 unfoldable pub call : Script → ℕ → Option ℕ → Entries → World → Said World
 unfolding run_command ◌followed_by◌ caught intersection_lines
 call script document handler handed world =
@@ -121,19 +121,19 @@ call script document handler handed world =
 
 -- events and what they are fired at ----------------------------------------------------------------------------------------
 
--- the document that decides whether a target's listeners are called
+-- the document that must be Active for a target's listeners to be called
 abbrev pub document_of_target : World → EventTarget → ℕ
 document_of_target world (ElementTarget element) = (element_at (world.tree) element).document
 document_of_target world (DocumentTarget document) = document
 document_of_target world (WindowTarget document) = document
 document_of_target world (QueryTarget query) = (query_list_at (world.queries) query).document
 
--- a listener is called where it still stands: one that was removed and made anew is another
+-- a listener is called only if it is still in the list: one that was removed and added again is a different listener
 abbrev pub notify_listener : Script → Listener → World → Said World
 notify_listener script listener world =
     only_if (call script (document_of_target world (listener.target)) (Some (listener.handler)) NoEntries) world (listener_stands listener (world.listeners))
 
--- the listeners at one target, as they are when the event reaches it (DOM, 2.9: inner invoke)
+-- invokes the listeners of one target, as they are when the event reaches it (DOM, 2.9: inner invoke)
 unfoldable pub invoke : Script → EventTarget → EventKind → World → Said World
 unfolding for_each call
 invoke script target event world = for_each (notify_listener script) (listeners_of target event (world.listeners)) world
@@ -143,7 +143,7 @@ abbrev pub bubble : Script → EventTarget → EventKind → World → Said Worl
 bubble script (DocumentTarget document) events.Scroll world = invoke script (WindowTarget document) events.Scroll world
 bubble script target event world = silent world
 
--- firing an event (DOM, 2.10): its line, and then its listeners
+-- fires an event (DOM, 2.10): its line is written, then the listeners are invoked
 unfoldable pub fire : Script → FiredEvent → EventTarget → EventKind → World → Said World
 unfolding ◌followed_by◌ invoke
 fire script event target name world =

@@ -1,5 +1,5 @@
--- What lies between a target and a root: rectangles in the coordinates of the top document's viewport (Intersection
--- Observer, 3.2: compute the intersection of a target element and the root).
+-- The chain of containers from a target to a root, and the rectangles that clip the target on the way, in the coordinates of the
+-- top document's viewport (Intersection Observer, 3.2: compute the intersection of a target element and the root).
 use Rattle.std.specs.Prelude.{ℕ, zero, suc, Bool, true, false, cond, not, ◌==◌, List, [], ◌∷◌, Option, Some, None, option_map, filter_map, take_while, fold, ℤ, pos, neg_ℤ, ◌+ℤ◌, ◌-ℤ◌, ◌*ℤ◌, int_div}
 use Rattle.px_units.specs.declared.BoxKind.TheVariants.{Border}
 use Rattle.px_units.specs.declared.Rect.{Rect}
@@ -26,7 +26,7 @@ zero_rect = record { left = pos 0; top = pos 0; right = pos 0; bottom = pos 0 }
 abbrev pub added : Point → Point → Point
 added p q = record { left = p.left +ℤ q.left; top = p.top +ℤ q.top }
 
--- a rectangle moved by what a point is from the zero point, and moved back
+-- a rectangle translated by a point's coordinates, and by their negatives
 abbrev pub moved_by : Point → Rect → Rect
 moved_by p r = shifted r (p.left) (p.top)
 
@@ -36,7 +36,8 @@ moved_back p r = shifted r (neg_ℤ p.left) (neg_ℤ p.top)
 abbrev pub beside : Point → ℕ × ℕ → Point
 beside p by = record { left = p.left +ℤ pos (by.0); top = p.top +ℤ pos (by.1) }
 
--- the padding box in the viewport of the element's document, and the corner of the content box
+-- for an element whose border box is at `place` in its document's viewport: its padding box, which is the zero rectangle without a
+-- box, and the top left corner of its content box
 abbrev pub padding_box_at : Point → Option Box → Rect
 padding_box_at place None = zero_rect
 padding_box_at place (Some box) = rect_of (beside place (padding_corner box)) (extent_of (padding_size box))
@@ -59,7 +60,7 @@ unfolding boxes.has_box boxes.box_of boxes.place_of
 origin_up zero shown document = zero_point
 origin_up (suc high) shown document = origin_by_frame (origin_up high shown) shown (document_at (shown.tree) document).frame
 
--- where a document's viewport begins: at the zero point for the top document, and for one whose frame has no box
+-- the top left corner of a document's viewport: the zero point for the top document, and for one whose frame has no box
 unfoldable pub origin : Shown → ℕ → Point
 unfolding origin_up
 origin shown document = origin_up frame_levels shown document
@@ -67,7 +68,7 @@ origin shown document = origin_up frame_levels shown document
 abbrev pub origin_of_element : Shown → ℕ → Point
 origin_of_element shown element = origin shown (element_at (shown.tree) element).document
 
--- in the coordinates of the top document: the viewport of a document, and the border box and the padding box of an element
+-- in the coordinates of the top document's viewport: the viewport of a document, and the border box and the padding box of an element
 unfoldable pub viewport_rect : Shown → ℕ → Rect
 unfolding origin boxes.viewport_of
 viewport_rect shown document = rect_of (origin shown document) (viewport_of shown document)
@@ -88,12 +89,12 @@ container_held (HeldByElement element) document = Some (InElement element)
 container_held HeldByPage document = option_map InDocument document
 container_held HeldByScreen document = option_map InDocument document
 
--- what an element's box is held by: an element's box, or the viewport of the document in whose tree it stands, for the page and for the
--- screen
+-- what holds an element's box: the box of another element, or the viewport of the document whose tree the element is in. The viewport
+-- stands for both the page and the screen
 abbrev pub holding : Tree → ℕ → Option Container
 holding tree element = container_held (holder (nodes_of tree) element) (tree_document tree element)
 
--- what lies beyond a container: what holds an element, and the frame of a document
+-- the next container outwards: what holds an element's box, or the frame of a document
 abbrev pub container_beyond : Tree → Container → Option Container
 container_beyond tree (InElement element) = holding tree element
 container_beyond tree (InDocument document) = option_map InElement (document_at tree document).frame
@@ -108,11 +109,12 @@ containers_from zero tree container = []
 containers_from (suc most) tree container =
     container ∷ containers_by (containers_from most tree) (container_beyond tree container)
 
--- more containers than an element can stand in: the levels of the trees of 64 documents, and these; a bound of this project
+-- more than the containers that an element can be nested in, which are the levels of the trees of 64 documents, and these documents;
+-- a bound of this project
 abbrev pub most_containers : ℕ
 most_containers = 65536
 
--- all containers of an element, from what holds it up to the top document
+-- all containers of an element, from what holds its box outwards to the top document
 abbrev pub containers_of : Tree → ℕ → List Container
 containers_of tree element = containers_by (containers_from most_containers tree) (holding tree element)
 
@@ -123,11 +125,11 @@ is_root (DocumentRoot root) (InDocument document) = document == root
 is_root (ElementRoot root) (InElement element) = element == root
 is_root root container = false
 
--- what stands strictly between a target and a root
+-- the containers strictly between a target and a root
 abbrev pub containers_between : Tree → Root → ℕ → List Container
 containers_between tree root target = take_while (λ c. not (is_root root c)) (containers_of tree target)
 
--- the padding box of an element that clips, and the viewport of a document
+-- the clip of a container: the padding box of an element that clips, none for any other element; the viewport of a document
 abbrev pub clip_of : Shown → Container → Option Rect
 clip_of shown (InElement element) = cond (clips_in shown element) (Some (padding_rect shown element)) None
 clip_of shown (InDocument document) = Some (viewport_rect shown document)
@@ -137,19 +139,19 @@ unfoldable pub clips_between : Shown → Root → ℕ → List Rect
 unfolding containers_from viewport_rect padding_rect
 clips_between shown root target = filter_map (clip_of shown) (containers_between (shown.tree) root target)
 
--- the common part of a rectangle and others, none where no point is common to all
+-- the intersection of a rectangle with others, or None if no point is common to all of them
 unfoldable pub common_part : Rect → List Rect → Option Rect
 common_part first others =
     let common = fold overlap first others in
     cond (has_points common) (Some common) None
 
--- a margin in units: a percentage is of the rectangle's width before it is moved, on all four sides, cut toward zero. (That
--- this holds for top and bottom too, and the cut, is this project's own reading.)
+-- a margin in units. A percentage is resolved against the rectangle's width before it is expanded, on all four sides, and truncated
+-- toward zero. (That this holds for top and bottom too, and the truncation, are this project's own reading.)
 abbrev pub margin_units : ℤ → MarginPart → ℤ
 margin_units width (MarginPixels units) = units
 margin_units width (MarginPercentage hundredths) = int_div (width *ℤ hundredths) (pos 10000)
 
--- a rectangle moved outward by margins
+-- a rectangle with its edges moved outward by margins
 abbrev pub moved_out : Margins → Rect → Rect
 moved_out margins r =
     let width = r.right -ℤ r.left in
@@ -160,8 +162,8 @@ moved_out margins r =
       bottom = r.bottom +ℤ margin_units width (margins.bottom);
     }
 
--- an observer's scroll margins move the clips of scroll containers outward (Intersection Observer, 2.2: scrollMargin). That
--- they leave the viewports of documents alone is this project's own
+-- an observer's scroll margins expand the clips of scroll containers (Intersection Observer, 2.2: scrollMargin). That they don't
+-- expand the viewports of documents is this project's own
 abbrev pub has_scroll_margins : Tree → Container → Bool
 has_scroll_margins tree (InElement element) = is_scroll_container (nodes_of tree element)
 has_scroll_margins tree (InDocument document) = false
@@ -171,12 +173,12 @@ abbrev pub clip_for : Shown → Margins → Container → Option Rect
 clip_for shown scroll_margins container =
     cond (has_scroll_margins (shown.tree) container) (option_map (moved_out scroll_margins) (clip_of shown container)) (clip_of shown container)
 
--- the clips strictly between a target and a root for such an observer
+-- the clips strictly between a target and a root, for an observer with these scroll margins
 unfoldable pub clips_for : Shown → Margins → Root → ℕ → List Rect
 unfolding containers_from viewport_rect padding_rect
 clips_for shown scroll_margins root target = filter_map (clip_for shown scroll_margins) (containers_between (shown.tree) root target)
 
--- the padding box of a root element that clips, and the border box of another; zero without a box
+-- for an element as root: its padding box if it clips, else its border box; the zero rectangle without a box
 abbrev pub element_root_bounds : Shown → ℕ → Bool → Rect
 element_root_bounds shown element true = cond (clips_in shown element) (padding_rect shown element) (border_rect shown element)
 element_root_bounds shown element false = zero_rect

@@ -1,6 +1,6 @@
 -- What each command does (this project's own commands, over the steps of DOM, CSSOM, CSSOM View, HTML, Resize Observer and
--- Intersection Observer). The operands are looked up from left to right, then come the exceptions of the command, then its
--- limits. A command that throws or meets a limit changes nothing.
+-- Intersection Observer). First the operands are looked up, from left to right, then the exceptions of the command are checked, then
+-- its limits. A command that throws or meets a limit changes nothing.
 use Rattle.std.specs.Prelude.{ℕ, ℤ, suc, unwrap_or, Bool, true, false, not, nat_lt, nat_le, ◌+◌, Option, Some, None, List, [], ◌∷◌, length, is_some}
 use Rattle.px_units.specs.declared.BoxKind.TheVariants.{Border}
 use Rattle.layout_model.specs.Items.{Kind, BlockKind, ImageKind}
@@ -34,7 +34,7 @@ use Rattle.page_model.specs.Tasks.{posted_tasks, with_task}
 use Rattle.page_model.specs.Scrolling.{scrolled_thing, scrolled_to, scrolled_by}
 use Rattle.page_model.specs.Readings.{reading_of}
 
--- whether an element would come to stand in itself (DOM, 4.2.3: ensure pre-insert validity, step 2)
+-- whether an element is an inclusive ancestor of the parent that it is inserted into (DOM, 4.2.3: ensure pre-insert validity, step 2)
 abbrev pub would_hold_itself : Tree → Container → ℕ → Bool
 would_hold_itself tree (InElement parent) n = is_inclusive_ancestor tree n parent
 would_hold_itself tree (InDocument document) n = false
@@ -43,12 +43,12 @@ abbrev pub is_container_of : Container → Option Container → Bool
 is_container_of container None = false
 is_container_of container (Some other) = is_same_container container other
 
--- whether a sibling was named that isn't a child there (step 3)
+-- whether a sibling is given that isn't a child of the container (step 3)
 abbrev pub is_no_child : Tree → Container → Option ℕ → Bool
 is_no_child tree container None = false
 is_no_child tree container (Some sibling) = not (is_container_of container (container_of tree sibling))
 
--- whether a document has its root element (step 6)
+-- whether the container is a document that already has a root element (step 6)
 abbrev pub is_full : Tree → Container → Bool
 is_full tree (InElement parent) = false
 is_full tree (InDocument document) = is_some (document_at tree document).root
@@ -57,7 +57,7 @@ abbrev pub container_depth : Tree → Container → ℕ
 container_depth tree (InElement parent) = element_depth tree parent
 container_depth tree (InDocument document) = 0
 
--- pre-inserting (DOM, 4.2.3), before a sibling or last
+-- pre-insert (DOM, 4.2.3): before a sibling, or as the last child
 unfoldable pub placing : Container → ℕ → Option ℕ → Tree → Step Tree
 unfolding ◌>>=◌ ◌>>◌ is_inclusive_ancestor element_depth levels_of inserted
 placing container n sibling tree = do
@@ -67,7 +67,7 @@ placing container n sibling tree = do
   met_unless (nat_le (container_depth tree container + levels_of tree n) (common_limit limits.Depth)) limits.Depth
   Did (inserted tree container n sibling)
 
--- a target that is there already is left as it is
+-- observe() of an intersection observer: a target that is already observed is left as it is
 unfoldable pub observing : Version → ℕ → ℕ → Bool → IntersectionObservers → Step IntersectionObservers
 unfolding ◌>>=◌ ◌>>◌
 observing version observer n true it = Did it
@@ -75,14 +75,14 @@ observing version observer n false it = do
   room version limits.IntersectionObservations (intersection_observations it)
   Did (with_registration observer n it)
 
--- the queue is copied and cleared
+-- takeRecords(): the queue is copied and cleared
 abbrev pub taking : World → ℕ → List Entry → Step Effect
 taking world observer queue =
     writes
     (TakeLine (intersection_observer_text (world.names) observer) (length queue) ∷ intersection_lines (world.names) observer queue)
     (record world { intersection_observers = without_queue observer (world.intersection_observers) })
 
--- a second listener of one kind and handler on a target is ignored (DOM, 2.7)
+-- a listener is ignored if the target already has one with the same event and handler (DOM, 2.7)
 unfoldable pub listening : Version → EventTarget → EventKind → ℕ → Bool → Table Listener → Step (Table Listener)
 unfolding ◌>>=◌ ◌>>◌
 listening version target event handler true listeners = Did listeners
@@ -99,7 +99,7 @@ unfoldable pub matches_now : World → ℕ → List MediaQuery → Bool
 unfolding viewport_of matches
 matches_now world document query = matches_in query (viewport_of (world.tree) (world.viewports.screen) document)
 
--- a step of a part, lifted to the world that it stands in
+-- a step that changes one part, lifted to the world
 unfoldable pub with_tree : World → Step Tree → Step Effect
 unfolding ◌>>=◌
 with_tree world step = step >>= λ (it : Tree). becomes (record world { tree = it })
@@ -112,7 +112,7 @@ unfoldable pub with_listeners : World → Step (Table Listener) → Step Effect
 unfolding ◌>>=◌
 with_listeners world step = step >>= λ (it : Table Listener). becomes (record world { listeners = it })
 
--- making a block or an image
+-- makes a block or an image
 unfoldable pub making : World → List ℕ → List ℕ → Kind → Step Effect
 unfolding ◌>>=◌ ◌>>◌
 making world name document kind = do
@@ -124,21 +124,21 @@ making world name document kind = do
     tree = with_element kind made_in None (world.tree);
   })
 
--- a width or a height that is set in pixels made greater or less
+-- increases or decreases a width or height that is set in pixels
 unfoldable pub growing : Dimension → ℕ → ℤ → Tree → Step Tree
 unfolding ◌>>=◌
 growing dimension n by tree = do
   units ← required TypeError (pixels_of (dimension_of dimension (element_at tree n).item.style))
   Did (with_declaration (set_dimension dimension (grown units by)) n tree)
 
--- an image's natural size
+-- sets an image's natural size
 unfoldable pub loading : ℕ → ℕ → ℕ → Tree → Step Tree
 unfolding ◌>>◌
 loading n width height tree = do
   throw_if (not (is_image (element_at tree n).item.kind)) TypeError
   Did (with_natural_size width height n tree)
 
--- the commands without a block, one after the other: operands, exceptions, limits, and what becomes of the world
+-- the commands that have no block: for each its operands, its exceptions, its limits, and its effect on the world
 unfoldable pub does : Handlers → World → Present → Action → Step Effect
 unfolding ◌>>=◌ ◌>>◌ with_tree with_intersections with_listeners making growing loading placing observing listening margins_of thresholds_of removed matches_now intersection_lines is_scroller scroll_range scroll_offset viewport_of size_of place_of
 does handlers world present (Viewport width height) = becomes (record world { viewports = with_size width height (world.viewports) })
@@ -276,13 +276,13 @@ does handlers world present (Read target) = do
   container ← container_meant (world.names) present target
   writes (reading_of (world.names) (world.tree) (world.viewports.screen) (world.scrolls) container ∷ []) world
 
--- whether the present entry intersects
+-- whether the current entry, which has to be that of an intersection observer, is intersecting
 abbrev pub seen_now : Present → Step Bool
 seen_now NoEntry = Threw ReferenceError
 seen_now (ResizeEntry target) = Threw TypeError
 seen_now (IntersectionEntry target meets) = Did meets
 
--- what is asked, before a `not`
+-- the answer to a test, before a `not` is applied
 unfoldable pub asked : World → Present → Test → Step Bool
 unfolding ◌>>=◌ ◌>>◌ size_of matches_now
 asked world present (Wider node units) = do
@@ -310,7 +310,7 @@ holds world present condition = do
   answer ← asked world present (condition.asks)
   Did (turned (condition.negated) answer)
 
--- each command that begins is counted
+-- counts a command that begins, and meets the limit on their number
 unfoldable pub begun_in : World → Step World
 unfolding ◌>>=◌ ◌>>◌
 begun_in world = do

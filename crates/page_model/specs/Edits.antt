@@ -1,4 +1,4 @@
--- What single commands make of elements and documents: making them, styles and natural sizes (DOM, 4.5; HTML, 4.8.5; CSSOM, 6.6).
+-- How single commands change elements and documents: creation, styles and natural sizes (DOM, 4.5; HTML, 4.8.5; CSSOM, 6.6).
 use Rattle.std.specs.Prelude.{ℕ, ℤ, pos, negsuc, ◌+ℤ◌, min, Bool, true, false, Option, Some, None, [], ◌∷◌, ◌++◌, length}
 use Rattle.px_units.specs.Lengths.{LengthValue, Automatic, Pixels, Percentage}
 use Rattle.layout_model.specs.Styles.{Style, Declaration, SetWidth, SetHeight, first_style, declared}
@@ -7,16 +7,16 @@ use Rattle.script_model.specs.Syntax.{Dimension, WidthDimension, HeightDimension
 use Rattle.page_model.specs.World.{Fresh, Document, Tree}
 use Rattle.page_model.specs.Lookups.{new_element, change_element}
 
--- a document just made, in a frame
+-- a newly created document, in a frame
 abbrev pub new_document : ℕ → Document
 new_document frame = record { state = Fresh; frame = Some frame; root = None }
 
--- an element of a kind, made in a document and standing nowhere
+-- the tree with a new element of a kind, which has this node document and no parent
 abbrev pub with_element : Kind → ℕ → Option ℕ → Tree → Tree
 with_element kind document framed tree =
     record tree { elements = tree.elements ++ new_element (record { style = first_style; kind = kind }) document framed ∷ [] }
 
--- a frame with its document
+-- the tree with a new frame and the document in it
 abbrev pub with_frame : ℕ → Tree → Tree
 with_frame document tree =
     record (with_element FrameKind document (Some (length tree.documents)) tree) {
@@ -42,12 +42,12 @@ abbrev pub set_dimension : Dimension → ℕ → Declaration
 set_dimension WidthDimension units = SetWidth (Pixels units)
 set_dimension HeightDimension units = SetHeight (Pixels units)
 
--- a signed length kept between 0 and a greatest one
+-- a signed length clamped between 0 and a maximum
 abbrev pub kept_within : ℤ → ℕ → ℕ
 kept_within (pos units) most = min units most
 kept_within (negsuc units) most = 0
 
--- at most 1,000,000 pixels
+-- a length changed by a signed one, clamped between 0 and 1,000,000 pixels
 abbrev pub grown : ℕ → ℤ → ℕ
 grown units by = kept_within (pos units +ℤ by) 64000000
 

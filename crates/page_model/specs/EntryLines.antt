@@ -1,4 +1,4 @@
--- The line of an intersection observer's entry, its rectangles in the coordinates that they were found in.
+-- The trace line of an intersection observer's entry. Its rectangles are those of the finding, in the same coordinates.
 use Rattle.std.specs.Prelude.{ℕ, List, map}
 use Rattle.script_model.specs.TraceLines.{TraceLine, IntersectLine}
 use Rattle.page_model.specs.World.{Entry, Name}

@@ -1,5 +1,5 @@
--- What is found of a target in an update (Intersection Observer, 3.2: update intersection observations). That an edge in common is
--- enough, and the order of the cases, is this project's own.
+-- What an update finds for a target (Intersection Observer, 3.2: update intersection observations). That it is enough for the
+-- rectangles to share an edge, and the order of the cases, are this project's own.
 use Rattle.std.specs.Prelude.{ℕ, ◌*◌, Bool, true, false, cond, not, ◌||◌, ◌==◌, nat_le, List, ◌∷◌, count_by, Option, option_map, unwrap_or, is_some}
 use Rattle.px_units.specs.declared.Rect.{Rect}
 use Rattle.px_units.specs.declared.Point.{Point}
@@ -13,18 +13,18 @@ use Rattle.page_model.specs.PageBoxes as boxes
 use Rattle.page_model.specs.Shown.{Shown, has_box}
 use Rattle.page_model.specs.Chains.{zero_point, zero_rect, moved_back, origin, origin_of_element, border_rect, clips_for, common_part, root_rect}
 
--- how a target lies to a root: apart from it, without a box, or in a chain of containers that leads to it
+-- how a target relates to a root: apart from it, without a box, or on a chain of containers that leads to it
 pub data Relation : Type 0 where
   Apart : Relation
   Boxless : Relation
   Chained : Relation
 
--- whether an element lies on the chain of those that hold another one
+-- whether an element is on the chain of elements that hold the target's box; the target itself isn't
 abbrev pub is_on_chain : Tree → ℕ → ℕ → Bool
 is_on_chain tree element target = cond (element == target) false (is_in_path (held (nodes_of tree)) element target)
 
--- apart from a root that isn't implicit is a target of another node document; and from an element also one on whose chain it
--- doesn't lie, or where one of the two has no box
+-- a target is apart from an explicit root if it belongs to another node document. It is also apart from an element as root if that
+-- isn't on its chain, or if one of the two has no box
 abbrev pub is_apart : Shown → Root → ℕ → Bool
 is_apart shown ImplicitRoot target = false
 is_apart shown (DocumentRoot root) target = not ((element_at (shown.tree) target).document == root)
@@ -34,11 +34,11 @@ is_apart shown (ElementRoot root) target =
 abbrev pub relation : Shown → Root → ℕ → Relation
 relation shown root target = cond (is_apart shown root target) Apart (cond (has_box shown target) Chained Boxless)
 
--- the count of thresholds, in ten-thousandths, that aren't greater than the part of the whole
+-- the threshold index: the number of thresholds, in ten-thousandths, that aren't greater than the ratio of part to whole
 abbrev pub index_of : List ℕ → ℕ → ℕ → ℕ
 index_of thresholds part whole = count_by (λ threshold. nat_le (threshold * whole) (part * 10000)) thresholds
 
--- the part of a target that is seen, as an area and the whole one. A target without area is seen whole or not at all
+-- the intersection ratio of a target, as the intersecting area and the whole one. For a target without area it is 1 or 0
 pub record Ratio : Type 0 where
   pub part : ℕ
   pub whole : ℕ
@@ -52,7 +52,7 @@ ratio_of bounds cut =
     cond (area bounds == 0) (all_or_nothing (is_some cut))
     (record { part = unwrap_or (option_map area cut) 0; whole = area bounds })
 
--- where nothing is seen of a target without a box
+-- the finding for a target that is apart from the root or has no box: it isn't intersecting, and its bounds and intersection are zero
 abbrev pub unseen : ℕ → Rect → Finding
 unseen index root = record {
   index = index;
@@ -64,7 +64,8 @@ unseen index root = record {
   cut = zero_rect;
 }
 
--- what is found of a target with these bounds and this cut; an empty cut is the zero rectangle and isn't moved
+-- the finding for a target with these bounds and this intersection, both translated by `from`; without an intersection it has the
+-- zero rectangle, which isn't translated
 abbrev pub seen_at : List ℕ → Point → Rect → Option Rect → Rect → Finding
 seen_at thresholds from bounds cut root =
     let ratio = ratio_of bounds cut in
@@ -78,7 +79,8 @@ seen_at thresholds from bounds cut root =
       cut = unwrap_or (option_map (moved_back from) cut) zero_rect;
     }
 
--- from where the root rectangle is told: the viewport of the root's document
+-- the origin of the root rectangle's coordinates: that of the viewport of the root's document, and the zero point if the root is an
+-- element without a box
 abbrev pub root_origin : Shown → Root → Point
 root_origin shown ImplicitRoot = zero_point
 root_origin shown (DocumentRoot document) = origin shown document
@@ -96,8 +98,8 @@ found shown scroll_margins observer target root Chained =
     (common_part bounds (root_rect shown (observer.root) (observer.margins) ∷ clips_for shown scroll_margins (observer.root) target))
     root
 
--- the finding of a target by an observer with these scroll margins; its rectangles are in the coordinates of the target's document, the
--- root rectangle in those of the root's
+-- what an observer with these scroll margins finds for a target. The rectangles are in the coordinates of the viewport of the target's
+-- document, the root rectangle in those of the root's
 unfoldable pub finding : Shown → Margins → IntersectionObserver → ℕ → Finding
 unfolding root_rect clips_for common_part ratio_of origin border_rect boxes.has_box is_in_path
 finding shown scroll_margins observer target =

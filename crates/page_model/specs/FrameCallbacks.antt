@@ -1,4 +1,4 @@
--- Animation frame callbacks (HTML, animation frames): a document's map of them by key, in order of requests.
+-- Animation frame callbacks (HTML, animation frames): the map of each document, by key, in the order in which they were requested.
 use Rattle.std.specs.Prelude.{ℕ, Bool, ◌&&◌, not, ◌==◌, List, filter, bytes_eq}
 use Rattle.std.specs.List.{list_any}
 use Rattle.page_model.specs.World.{FrameCallback, Table}
@@ -20,10 +20,10 @@ without_frame_callback document key callbacks = kept (λ each. not (is_frame_cal
 abbrev pub frame_callbacks_of : ℕ → Table FrameCallback → List FrameCallback
 frame_callbacks_of document callbacks = filter (λ (callback : FrameCallback). callback.document == document) (callbacks.held)
 
--- whether a frame callback that was copied still stands: one that was cancelled and requested anew is another
+-- whether a frame callback that was copied is still in the map: one that was cancelled and requested again is a different one
 abbrev pub frame_callback_stands : FrameCallback → Table FrameCallback → Bool
 frame_callback_stands callback callbacks = list_any (λ (each : FrameCallback). each.serial == callback.serial) (callbacks.held)
 
--- once a frame callback was taken out to be run, by its serial number
+-- without the frame callback that is about to run, given by its serial number
 abbrev pub frame_callback_taken : ℕ → Table FrameCallback → Table FrameCallback
 frame_callback_taken serial callbacks = kept (λ (each : FrameCallback). not (each.serial == serial)) callbacks

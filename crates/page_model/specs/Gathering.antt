@@ -1,5 +1,5 @@
--- Gathering resize observations at a depth, and what is delivered of them, over any sizes and depths (Resize Observer, 2.3, 3.1
--- and 3.4).
+-- Gathering active resize observations at a depth, and delivering them, for given sizes and depths (Resize Observer, 2.3, 3.1 and
+-- 3.4).
 use Rattle.std.specs.Prelude.{ℕ, Bool, true, false, cond, not, ◌&&◌, ◌==◌, nat_lt, List, [], ◌∷◌, map, filter}
 use Rattle.std.specs.List.{list_any}
 use Rattle.px_units.specs.declared.BoxKind.{BoxKind}
@@ -9,17 +9,17 @@ use Rattle.page_model.specs.Lookups.{same_extent, resize_observer_at, change_res
 use Rattle.page_model.specs.Documents.{element_depth}
 use Rattle.page_model.specs.PageBoxes.{size_of, corner_of}
 
--- sizes, corners and depths of elements, by the elements' numbers, as they are at one moment
+-- the sizes, corners and depths of elements at one moment, by element number
 pub record Sight : Type 0 where
   pub size : ℕ → BoxKind → Extent
   pub corner : ℕ → Extent
   pub depth : ℕ → ℕ
 
--- those of elements and documents, where `top` is shown on a screen
+-- those of a tree whose top document is shown on this screen
 abbrev pub sight_in : Tree → Screen → Sight
 sight_in tree screen = record { size = size_of tree screen; corner = corner_of tree screen; depth = element_depth tree }
 
--- those of a page
+-- those of a world
 abbrev pub sight_of : World → Sight
 sight_of world = sight_in (world.tree) (world.viewports.screen)
 
@@ -33,7 +33,7 @@ has_changed sight observation = not (same_extent (observed_size sight observatio
 abbrev pub is_deeper : Sight → ℕ → Observation → Bool
 is_deeper sight depth observation = nat_lt depth (sight.depth (observation.target))
 
--- what changed goes on the active list where its target is deeper, else on the skipped one
+-- an observation whose size has changed goes on the active list if its target is deeper than the depth, else on the skipped list
 abbrev pub gathered : Sight → ℕ → ResizeObserver → ResizeObserver
 gathered sight depth observer =
     let changed = filter (has_changed sight) (observer.targets) in
@@ -49,7 +49,7 @@ abbrev pub gathered_if : Bool → Sight → ℕ → ResizeObserver → ResizeObs
 gathered_if true sight depth observer = gathered sight depth observer
 gathered_if false sight depth observer = observer
 
--- gather active resize observations at a depth: each observer of the document gathers, the others stay as they are
+-- gather active resize observations at a depth, for each observer of the document; the others stay as they are
 abbrev pub gathering : Sight → ℕ → ℕ → ResizeObservers → ResizeObservers
 gathering sight document depth it =
     record it { made = map (λ (observer : ResizeObserver). gathered_if (is_of document observer) sight depth observer) (it.made) }
@@ -58,7 +58,7 @@ abbrev pub is_filled : {A : Type 0} → List A → Bool
 is_filled [] = false
 is_filled (x ∷ xs) = true
 
--- whether an observer of the document has something in such a list
+-- whether the given list of some observer of the document isn't empty
 abbrev pub has_filled : (ResizeObserver → List Observation) → ℕ → ResizeObservers → Bool
 has_filled list_in document it = list_any (λ (observer : ResizeObserver). is_of document observer && is_filled (list_in observer)) (it.made)
 
@@ -78,7 +78,7 @@ pub record SizeEntry : Type 0 where
   pub device : Extent
   pub depth : ℕ
 
--- the entry of an active observation, of the boxes as they are now (create and populate a ResizeObserverEntry)
+-- the entry of an active observation, for the boxes as they are now (create and populate a ResizeObserverEntry)
 abbrev pub size_entry : Sight → Observation → SizeEntry
 size_entry sight observation = record {
   target = observation.target;
@@ -89,23 +89,23 @@ size_entry sight observation = record {
   depth = sight.depth (observation.target);
 }
 
--- an observation that is delivered now: one that was made anew for the same target is another
+-- sets the last reported size of an observation if it is among those delivered: one that was made again for the same target isn't
 abbrev pub reported : Sight → List Observation → Observation → Observation
 reported sight delivered observation =
     cond (list_any (λ (each : Observation). each.serial == observation.serial) delivered)
     (record observation { last = observed_size sight observation })
     observation
 
--- the sizes of what is delivered are the last reported ones
+-- the sizes of the observations delivered become their last reported sizes
 abbrev pub with_reported : Sight → ℕ → List Observation → ResizeObservers → ResizeObservers
 with_reported sight observer delivered it =
     change_resize_observer (λ each. record each { targets = map (reported sight delivered) (each.targets) }) observer it
 
--- an observer's active list emptied
+-- clears an observer's list of active targets
 abbrev pub without_active : ℕ → ResizeObservers → ResizeObservers
 without_active observer it = change_resize_observer (λ each. record each { active = [] }) observer it
 
--- what an observer is to deliver in a document's broadcast, nothing where it is another document's
+-- what an observer has to deliver in a document's broadcast: nothing if it belongs to another document
 abbrev pub due_at : ℕ → ℕ → ResizeObservers → List Observation
 due_at document observer it =
     let each = resize_observer_at it observer in

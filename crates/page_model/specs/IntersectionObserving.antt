@@ -1,4 +1,4 @@
--- Intersection observers and what commands make of them (Intersection Observer, 2.2 and 3.2).
+-- Intersection observers, and how commands change them (Intersection Observer, 2.2 and 3.2).
 use Rattle.std.specs.Prelude.{ℕ, suc, Bool, false, not, ◌==◌, Option, None, List, [], ◌∷◌, ◌++◌, length, filter, sum_by}
 use Rattle.std.specs.List.{list_any}
 use Rattle.script_model.specs.Margins.{Margins}
@@ -22,11 +22,11 @@ with_intersection_observer document handler root margins thresholds it =
 abbrev pub is_registered : ℕ → List Registration → Bool
 is_registered n registrations = list_any (λ each. each.target == n) registrations
 
--- the registrations that all intersection observers hold
+-- the number of registrations of all intersection observers together
 abbrev pub intersection_observations : IntersectionObservers → ℕ
 intersection_observations it = sum_by (λ (observer : IntersectionObserver). length (observer.registrations)) it.made
 
--- a new registration has no previous index and wasn't intersecting
+-- a new registration has no previous threshold index and wasn't intersecting
 abbrev pub with_registration : ℕ → ℕ → IntersectionObservers → IntersectionObservers
 with_registration observer n it =
     change_intersection_observer
@@ -36,7 +36,7 @@ with_registration observer n it =
     observer
     (record it { given = suc it.given })
 
--- unobserving and disconnecting leave the queue as it is
+-- unobserve() and disconnect() leave the queue as it is
 abbrev pub without_registration : ℕ → ℕ → IntersectionObservers → IntersectionObservers
 without_registration observer n it =
     change_intersection_observer
@@ -47,6 +47,6 @@ without_registration observer n it =
 abbrev pub without_registrations : ℕ → IntersectionObservers → IntersectionObservers
 without_registrations observer it = change_intersection_observer (λ each. record each { registrations = [] }) observer it
 
--- the queue is copied by whoever asks, and cleared
+-- the queue cleared; callers copy it before
 abbrev pub without_queue : ℕ → IntersectionObservers → IntersectionObservers
 without_queue observer it = change_intersection_observer (λ each. record each { queue = [] }) observer it

@@ -11,7 +11,7 @@ use Rattle.page_model.specs.Findings.{finding}
 use Rattle.page_model.specs.Runs.{Said, silent, for_each, only_if}
 use Rattle.page_model.specs.Callbacks.{Script, CutEntries, call}
 
--- the places at which a test holds
+-- the indices of the entries that pass a test, counted from a first index
 abbrev pub places_from : {A : Type 0} → ℕ → (A → Bool) → List A → List ℕ
 places_from place test [] = []
 places_from place test (x ∷ xs) =
@@ -23,12 +23,12 @@ is_rooted_in tree document ImplicitRoot = document == 0
 is_rooted_in tree document (DocumentRoot root) = root == document
 is_rooted_in tree document (ElementRoot root) = is_number (tree_document tree root) document
 
--- the intersection observers whose root is a document or stands in its tree, in order of creation; those with the implicit
--- root are the top document's
+-- the intersection observers whose root is a document or an element in its tree, in order of creation; the implicit root counts as
+-- the top document
 abbrev pub watchers : Tree → ℕ → IntersectionObservers → List ℕ
 watchers tree document it = places_from 0 (λ (observer : IntersectionObserver). is_rooted_in tree document (observer.root)) (it.made)
 
--- a registration after an update, with the entry that it queues where index or isIntersecting differs
+-- a registration after an update, with the entry to be queued if the threshold index or isIntersecting has changed
 pub record Settled : Type 0 where
   pub registration : Registration
   pub entry : Option Entry
@@ -41,14 +41,14 @@ abbrev pub is_news : Registration → Finding → Bool
 is_news registration now =
     not (is_number (registration.previous_index) (now.index) && is_same_bool (registration.met) (now.meets))
 
--- a registration of which this is found at a time
+-- a registration updated by a finding for its target at this time
 abbrev pub settled : ℕ → Finding → Registration → Settled
 settled time now registration = record {
   registration = record registration { previous_index = Some (now.index); met = now.meets };
   entry = cond (is_news registration now) (Some (record { target = registration.target; time = time; finding = now })) None;
 }
 
--- an observer whose registrations are settled by what is found of their targets
+-- an observer with its registrations updated by the findings for their targets, and the new entries queued
 abbrev pub settled_observer : ℕ → (IntersectionObserver → ℕ → Finding) → IntersectionObserver → IntersectionObserver
 settled_observer time find observer =
     let each = map (λ (registration : Registration). settled time (find observer (registration.target)) registration) (observer.registrations) in
@@ -57,13 +57,13 @@ settled_observer time find observer =
       queue = observer.queue ++ filter_map (λ (it : Settled). it.entry) each;
     }
 
--- these observers settled, each by what is found for it
+-- updates these observers, each by its own findings
 abbrev pub settling : ℕ → (ℕ → IntersectionObserver → ℕ → Finding) → List ℕ → IntersectionObservers → IntersectionObservers
 settling time find [] it = it
 settling time find (observer ∷ others) it =
     settling time find others (change_intersection_observer (settled_observer time (find observer)) observer it)
 
--- a notify task for a document, unless one is queued already (queue an intersection observer task)
+-- queues a notify task for a document, unless one is queued already (queue an intersection observer task)
 abbrev pub with_notify_task : ℕ → Bool → World → World
 with_notify_task document true world = world
 with_notify_task document false world =
@@ -73,11 +73,11 @@ abbrev pub has_queued : IntersectionObservers → IntersectionObservers → ℕ 
 has_queued before now observer =
     nat_lt (length (intersection_observer_at before observer).queue) (length (intersection_observer_at now observer).queue)
 
--- what an observer of this number finds of a target now
+-- what the observer with this number finds for a target now
 abbrev pub found_now : World → ℕ → IntersectionObserver → ℕ → Finding
 found_now world number observer target = finding (shown_of world) (scroll_margins_at (world.scroll_margins) number) observer target
 
--- update intersection observations of a document: all findings are of the world as the update begins
+-- update intersection observations of a document: all findings are computed from the world as it is when the update begins
 unfoldable pub update_intersections : ℕ → World → World
 unfolding finding tree_document
 update_intersections document world =
@@ -88,7 +88,7 @@ update_intersections document world =
     (with_notify_task document (is_notifying document (world.notifying)) now)
     now
 
--- an observer whose queue isn't empty takes it, and its callback is called
+-- if an observer's queue isn't empty, it is cleared and the callback is invoked with its entries
 abbrev pub take_queue : Script → List Entry → ℕ → World → Said World
 take_queue script [] observer world = silent world
 take_queue script (entry ∷ entries) observer world =
@@ -107,7 +107,7 @@ notify_watchers script document world =
     (watchers (world.tree) document (world.intersection_observers))
     (record world { notifying = without_notifying document (world.notifying) })
 
--- the notify task of a document, dropped where it isn't Active (notify intersection observers)
+-- the notify task of a document (notify intersection observers); it does nothing if the document isn't Active
 unfoldable pub notify : Script → ℕ → World → Said World
 unfolding for_each call tree_document
 notify script document world = only_if (notify_watchers script document) world (is_active (world.tree) document)

@@ -41,6 +41,6 @@ without_listener target event handler listeners = kept (λ each. not (is_listene
 abbrev pub listeners_of : EventTarget → EventKind → Table Listener → List Listener
 listeners_of target event listeners = filter (hears target event) (listeners.held)
 
--- whether a listener that was copied still stands: one that was removed and made anew is another
+-- whether a listener that was copied is still in the list: one that was removed and added again is a different one
 abbrev pub listener_stands : Listener → Table Listener → Bool
 listener_stands listener listeners = list_any (λ (held : Listener). held.serial == listener.serial) (listeners.held)

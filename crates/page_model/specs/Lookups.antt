@@ -1,6 +1,6 @@
--- Entries of lists by number, and changes at a place. Numbers are given in order of making and nothing made is ever taken out
--- of these lists, so every number that a world holds is in range (a law of page_laws, over whole runs): the defaults of the
--- lists of elements, documents, observers and query lists stand for nothing.
+-- Entries of lists by number, and changes of single entries. Numbers are assigned in order of creation, and nothing is ever removed
+-- from these lists, so every number that a world holds is in range (a law of page_laws, over whole runs): the defaults for the lists
+-- of elements, documents, observers and query lists are never used.
 use Rattle.std.specs.Prelude.{ℕ, zero, suc, pos, Bool, true, false, cond, not, ◌==◌, List, [], ◌∷◌, ◌++◌, filter, slice_get, unwrap_or, Option, None}
 use Rattle.std.specs.List.{list_any}
 use Rattle.layout_model.specs.Styles.{all_four, first_style}
@@ -19,29 +19,29 @@ is_same_container (InElement a) (InElement b) = a == b
 is_same_container (InDocument a) (InDocument b) = a == b
 is_same_container a b = false
 
--- an entry of a list by number that may end before it
+-- the entry with a number, or the default if the list ends before it
 abbrev pub entry_or : {A : Type 0} → A → List A → ℕ → A
 entry_or default held n = unwrap_or (slice_get held n) default
 
--- one number's entry changed: the list is filled up to it with the default
+-- the list with the entry of one number set; a list that ends before it is filled up with the default
 abbrev pub put_at : {A : Type 0} → A → ℕ → A → List A → List A
 put_at default zero value [] = value ∷ []
 put_at default zero value (x ∷ xs) = value ∷ xs
 put_at default (suc n) value [] = default ∷ put_at default n value []
 put_at default (suc n) value (x ∷ xs) = x ∷ put_at default n value xs
 
--- the list with the entry at a place changed
+-- the list with the entry at an index changed
 abbrev pub change_at : {A : Type 0} → (A → A) → ℕ → List A → List A
 change_at change place [] = []
 change_at change zero (x ∷ xs) = change x ∷ xs
 change_at change (suc place) (x ∷ xs) = x ∷ change_at change place xs
 
--- the list with the entries at several places changed
+-- the list with the entries at several indices changed
 abbrev pub change_each : {A : Type 0} → (A → A) → List ℕ → List A → List A
 change_each change [] xs = xs
 change_each change (place ∷ places) xs = change_each change places (change_at change place xs)
 
--- an element just made, alone, with no style set
+-- a newly created element, with no parent and no children
 abbrev pub new_element : Item → ℕ → Option ℕ → Element
 new_element item document framed = record { item = item; parent = None; children = []; document = document; framed = framed }
 
@@ -109,7 +109,7 @@ is_listed n xs = list_any (λ x. x == n) xs
 abbrev pub without : ℕ → List ℕ → List ℕ
 without n xs = filter (λ x. not (x == n)) xs
 
--- a table with one more entry, last and with the next serial number
+-- a table with one more entry at the end, with the next serial number
 abbrev pub entered : {A : Type 0} → (ℕ → A) → Table A → Table A
 entered make table = record { given = suc table.given; held = table.held ++ make (table.given) ∷ [] }
 

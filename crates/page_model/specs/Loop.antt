@@ -16,7 +16,7 @@ unfoldable pub gather : ℕ → ℕ → World → World
 unfolding size_of element_depth
 gather document depth world = record world { resize_observers = gathering (sight_of world) document depth (world.resize_observers) }
 
--- a broadcast on its way, with the least depth of the entries so far
+-- a broadcast in progress, with the smallest depth of its entries so far
 pub record Broadcast : Type 0 where
   pub world : World
   pub shallowest : Option ℕ
@@ -25,12 +25,12 @@ abbrev pub shallower : Option ℕ → SizeEntry → Option ℕ
 shallower None entry = Some (entry.depth)
 shallower (Some depth) entry = Some (min depth entry.depth)
 
--- once its callback was called, an observer's active list is emptied while the document is Active
+-- after its callback, an observer's list of active targets is cleared, if the document is still Active
 abbrev pub emptied : ℕ → ℕ → World → World
 emptied document observer world =
     cond (is_active (world.tree) document) (record world { resize_observers = without_active observer (world.resize_observers) }) world
 
--- an observer's entries and their sizes as the last reported ones, and then its callback
+-- creates an observer's entries, sets the last reported sizes, and invokes the callback
 abbrev pub deliver : Script → ℕ → ℕ → Broadcast → List Observation → Said Broadcast
 deliver script document observer so_far delivered =
     let before = so_far.world in
@@ -40,13 +40,13 @@ deliver script document observer so_far delivered =
     (call script document (resize_observer_at (before.resize_observers) observer).handler (SizeEntries observer entries)
     (record before { resize_observers = with_reported (sight_of before) observer delivered (before.resize_observers) }))
 
--- an observer's turn: it is passed over where nothing is active
+-- an observer's turn: it is skipped if it has no active targets
 abbrev pub deliver_some : Script → ℕ → ℕ → Broadcast → List Observation → Said Broadcast
 deliver_some script document observer so_far [] = silent so_far
 deliver_some script document observer so_far (first ∷ others) = deliver script document observer so_far (first ∷ others)
 
--- broadcast active resize observations, by place, since a callback may make observers; left at once where the document
--- isn't Active any more, which is this project's own
+-- broadcast active resize observations, by index, since a callback may create observers. That it stops as soon as the document isn't
+-- Active any more is this project's own
 unfoldable pub broadcast : Script → ℕ → World → Said Broadcast
 unfolding by_place call size_of corner_of element_depth
 broadcast script document world =
@@ -56,7 +56,7 @@ broadcast script document world =
     (λ observer so_far. deliver_some script document observer so_far (due_at document observer (so_far.world.resize_observers)))
     (record { world = world; shallowest = None })
 
--- the end of a round: its line, and gathering at its depth. (A round has an entry, so that there is a least depth.)
+-- the end of a round: its line, and gathering at its smallest depth. (Every round has an entry, so there is a smallest depth.)
 abbrev pub round_ended : ℕ → Broadcast → Said Broadcast
 round_ended document so_far =
     let depth = unwrap_or (so_far.shallowest) 0 in
@@ -76,7 +76,7 @@ report_skipped script document world =
     world
     (is_active (world.tree) document && has_skipped document (world.resize_observers))
 
--- gather and broadcast in turn, at first at depth 0, as long as something is active
+-- gathers at depth 0, then broadcasts and gathers in turn as long as there are active observations, and then reports skipped ones
 unfoldable pub resize_loop : Script → ℕ → World → Said World
 unfolding ◌followed_by◌ repeat broadcast gather fire
 resize_loop script document world =

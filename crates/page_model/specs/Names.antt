@@ -1,4 +1,4 @@
--- The names of things, by which commands speak of them: this project's own. A name that was given is never free again.
+-- The names by which commands refer to things: this project's own. A name that is taken is never free again.
 use Rattle.std.specs.Prelude.{ℕ, Bool, false, ◌==◌, List, [], ◌∷◌, ◌++◌, find, option_map, unwrap_or, Option, bytes_eq, is_some}
 use Rattle.page_model.specs.World.{Container, InElement, InDocument, Thing, DocumentThing, ElementThing, ResizeObserverThing, IntersectionObserverThing, QueryListThing, Name}
 
@@ -10,14 +10,14 @@ is_same_thing (IntersectionObserverThing a) (IntersectionObserverThing b) = a ==
 is_same_thing (QueryListThing a) (QueryListThing b) = a == b
 is_same_thing a b = false
 
--- what a text names
+-- the thing that a text names, if any
 abbrev pub named_thing : List Name → List ℕ → Option Thing
 named_thing names text = option_map (λ (named : Name). named.thing) (find (λ named. bytes_eq named.text text) names)
 
 abbrev pub is_taken : List Name → List ℕ → Bool
 is_taken names text = is_some (named_thing names text)
 
--- the name of a thing; each has one, so no text is ever empty
+-- the name of a thing; every thing has one, so the empty text never occurs
 abbrev pub text_of : List Name → Thing → List ℕ
 text_of names thing = unwrap_or (option_map (λ (named : Name). named.text) (find (λ named. is_same_thing named.thing thing) names)) []
 

@@ -1,6 +1,6 @@
--- The operands of commands, looked up from left to right: a name or handler that isn't there, and `$target` where there is
--- no entry, throw ReferenceError; a name of another kind of thing, and a new name that is taken, throw TypeError. (The
--- commands are this project's own; the exceptions are those of WebIDL.)
+-- The operands of commands, looked up from left to right: a name or handler that doesn't exist, and `$target` without a current
+-- entry, throw ReferenceError; a name of the wrong kind of thing, and a new name that is already taken, throw TypeError. (The commands
+-- are this project's own; the exceptions are those of WebIDL.)
 use Rattle.std.specs.Prelude.{ℕ, Bool, ◌||◌, List, Option, Some, None, position, bytes_eq}
 use Rattle.text_io.specs.declared.kinds.ThrowKind.TheVariants.{ReferenceError, TypeError}
 use Rattle.script_model.specs.Syntax.{Operand, Named, Target, Aim, PlainAim, WindowAim}
@@ -8,25 +8,25 @@ use Rattle.page_model.specs.World.{Thing, DocumentThing, ElementThing, ResizeObs
 use Rattle.page_model.specs.Names.{named_thing, is_taken}
 use Rattle.page_model.specs.Steps.{Step, Did, Threw, ◌>>=◌, required, throw_if}
 
--- the entry that a callback's block is run for: none, that of a resize observer, or that of an intersection observer with
+-- the current entry, for which a callback's block is run: none, that of a resize observer, or that of an intersection observer with
 -- its isIntersecting
 pub data Present : Type 0 where
   NoEntry : Present
   ResizeEntry : (target : ℕ) → Present
   IntersectionEntry : (target : ℕ) (meets : Bool) → Present
 
--- the handlers of a script by name, a handler's number being its place
+-- the names of a script's handlers; a handler's number is its index
 abbrev pub Handlers : Type 0
 Handlers = List (List ℕ)
 
 abbrev pub thing_named : List Name → List ℕ → Step Thing
 thing_named names name = required ReferenceError (named_thing names name)
 
--- a new name has to be free
+-- a new name has to be unused
 abbrev pub new_name : List Name → List ℕ → Step (Unit {0})
 new_name names name = throw_if (is_taken names name) TypeError
 
--- and another one in the same command, too
+-- a second new name in the same command has to be unused too, and differ from the first
 abbrev pub other_new_name : List Name → List ℕ → List ℕ → Step (Unit {0})
 other_new_name names first name = throw_if (is_taken names name || bytes_eq first name) TypeError
 

@@ -1,5 +1,5 @@
--- The outcome of a script: its trace, how it ends and the world then; and the texts that are written of it. All of this is
--- this project's own choice.
+-- The outcome of a script: its trace, how it ends, and the final world; and the texts that are written for it. All of this is this
+-- project's own choice.
 use Rattle.std.specs.Prelude.{ℕ, List, [], ◌∷◌, ◌++◌, flat_map, None, Ok, Err, codes}
 use Rattle.word_model.specs.Numbers.{decimal}
 use Rattle.text_io.specs.declared.kinds.Version.{Version}
@@ -16,7 +16,7 @@ use Rattle.page_model.specs.Runs.{Flow, Next, Thrown, Limited, Said, silent, for
 use Rattle.page_model.specs.Callbacks.{run_command, once_begun, answered}
 use Rattle.page_model.specs.Ticks.{time_set, tick}
 
--- the top document, Active and empty, with a viewport of 800 by 600 pixels, each of which is a device pixel
+-- the world at the start: an Active, empty top document with a viewport of 800 by 600 pixels, at one device pixel per pixel
 abbrev pub opening_world : Version → World
 opening_world version = record {
   tree = record { elements = []; documents = record { state = Active; frame = None; root = None } ∷ [] };
@@ -37,12 +37,12 @@ opening_world version = record {
   begun = 0;
 }
 
--- a tick is begun as any command is
+-- a tick begins like any other command
 abbrev pub run_tick : List NamedBlock → ℕ → ℕ → World → Said World
 run_tick script line time world =
     once_begun line world λ begun. answered line begun (tick script) (time_set time begun)
 
--- what stands outside handlers; a throw ends this item alone
+-- an item of a script, of which a handler does nothing by itself; a throw ends this item only
 unfoldable pub run_item : List NamedBlock → Item → World → Said World
 unfolding caught run_command answered once_begun tick
 run_item script (Outside command) world = caught (run_command script [] command NoEntry world)
@@ -53,8 +53,8 @@ unfoldable pub run_items : List Item → World → Said World
 unfolding for_each run_item handlers_in
 run_items items world = for_each (run_item (handlers_in items)) items world
 
--- how a script ends: after its last command, with a fault of its text, or with a limit. Where the fault or the limit was
--- met stands in the last line
+-- how a script ends: after its last command, with a fault in its text, or at a limit. The last line says where the fault or the limit
+-- was met
 pub data Ending : Type 0 where
   Ended : Ending
   Faulty : Ending
@@ -77,7 +77,7 @@ refused_ending (LimitAt limit line) = LimitMet
 abbrev pub outcome_said : Said World → Outcome
 outcome_said said = record { lines = said.lines; ending = ending_of (said.flow); world = said.state }
 
--- a text that is refused is not run, so that the world is one that a run opens in
+-- a text that is refused isn't run, so its final world is one at the start of a run
 unfoldable pub outcome_read : Reading → Outcome
 unfolding run_items ending_of
 outcome_read (Ok script) = outcome_said (run_items (script.items) (opening_world (script.version)))
@@ -93,12 +93,12 @@ unfoldable pub bytes_of : List TraceLine → List ℕ
 unfolding line_text
 bytes_of lines = flat_map line_text lines
 
--- what is written of a script that is replayed
+-- what is written when a script is replayed
 unfoldable pub trace : List ℕ → List ℕ
 unfolding outcome bytes_of
 trace text = bytes_of (outcome text).lines
 
--- the number of a script's commands, those of handlers and blocks included
+-- the number of a script's commands, including those in handlers and blocks; for a text that is refused, its one line
 unfoldable pub check_read : Reading → List ℕ
 unfolding command_count decimal line_text
 check_read (Ok script) = codes "ok " ++ decimal (command_count (script.items)) ++ codes "\n"
@@ -108,7 +108,7 @@ unfoldable pub check_text : List ℕ → List ℕ
 unfolding reading check_read
 check_text text = check_read (reading text)
 
--- how many lines of each kind the trace has; of a text that is refused, its one line
+-- how many lines of each kind the trace has; for a text that is refused, its one line
 unfoldable pub summary_read : Reading → List ℕ
 unfolding run_items line_text summary_text
 summary_read (Ok script) = summary_text (run_items (script.items) (opening_world (script.version))).lines

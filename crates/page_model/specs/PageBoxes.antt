@@ -1,6 +1,6 @@
--- Boxes, places and scroll offsets of a page, read from its whole tree as it is at the reading (CSS 2.2, 8 to 11,
--- with the content box of a frame as the viewport of its document; CSSOM View, 4 to 6). A box comes from the tree and the screen
--- that the top document is shown on, and a place from the scroll positions besides. All numbers are units of 1/64 pixel.
+-- Boxes, places and scroll offsets of a page, computed from its whole tree as it is when they are read (CSS 2.2, 8 to 11, with the
+-- content box of a frame as the viewport of its document; CSSOM View, 4 to 6). A box depends on the tree and on the screen that the top
+-- document is shown on, a place on the scroll positions too. All numbers are units of 1/64 pixel.
 use Rattle.std.specs.Prelude.{ℕ, zero, suc, ℤ, pos, Bool, true, false, ◌&&◌, ◌+◌, ◌*◌, ◌/◌, Option, Some, None, option_map, unwrap_or, is_some}
 use Rattle.px_units.specs.declared.BoxKind.{BoxKind}
 use Rattle.px_units.specs.declared.BoxKind.TheVariants.{Content, Border, Device}
@@ -25,8 +25,8 @@ extent_of pair = record { across = pair.0; down = pair.1 }
 abbrev pub no_view : View
 no_view = record { root = None; width = 0; height = 0; scrolled = (0, 0) }
 
--- the size of a viewport: that of the top document, which has no frame, is the screen's, and that of another one is its
--- frame's content box; there is none where the frame has no box. `views` are those of the documents that frames stand in
+-- the size of a viewport: for the top document, which has no frame, the screen's; for any other that of its frame's content box, or
+-- None if the frame has no box. `views` gives the views of the documents that frames are in
 abbrev pub framed_size : Tree → Screen → (ℕ → View) → Option ℕ → Option (ℕ × ℕ)
 framed_size tree screen views None = Some (pair_of (screen.size))
 framed_size tree screen views (Some frame) =
@@ -50,23 +50,22 @@ view_up zero tree screen document = no_view
 view_up (suc high) tree screen document =
     view_if_active tree screen (view_up high tree screen) document (document_at tree document).state
 
--- the view of a document with its root element, scrolled nowhere: nothing where it isn't Active, or where its frame has no
--- box
+-- the view of a document with its root element, not scrolled; `no_view` if the document isn't Active or its frame has no box
 unfoldable pub view_of : Tree → Screen → ℕ → View
 unfolding view_up
 view_of tree screen document = view_up frame_levels tree screen document
 
--- the size of a document's viewport, also of one that isn't Active: 0 by 0 where its frame has no box
+-- the size of a document's viewport, whether or not it is Active: 0 by 0 if its frame has no box
 unfoldable pub viewport_of : Tree → Screen → ℕ → Extent
 unfolding view_of
 viewport_of tree screen document =
     extent_of (unwrap_or (framed_size tree screen (view_of tree screen) (document_at tree document).frame) (0, 0))
 
--- the view that an element is in, which is that of its node document: it stands in no other document's tree
+-- the view that an element is in: that of its node document, since it can be in no other document's tree
 abbrev pub view_at : Tree → Screen → ℕ → View
 view_at tree screen n = view_of tree screen (element_at tree n).document
 
--- the layout inputs of an element, none where it has no box
+-- the layout inputs of an element, None if it has no box
 unfoldable pub inputs_of : Tree → Screen → ℕ → Option Inputs
 unfolding view_of inputs_in_view
 inputs_of tree screen n = inputs_in_view (nodes_of tree) (view_at tree screen n) n
@@ -79,12 +78,12 @@ unfoldable pub box_of : Tree → Screen → ℕ → Option Box
 unfolding inputs_of box_in
 box_of tree screen n = option_map (λ inputs. box_in (nodes_of tree) inputs n) (inputs_of tree screen n)
 
--- the nearest whole number of device pixels along an axis, a half upwards, at a ratio in hundredths of a percent. A pixel has 64 units.
--- (How it is rounded is this project's own.)
+-- a length in whole device pixels, rounded to nearest with halves up, at a ratio in hundredths of a percent. A pixel has 64 units.
+-- (The rounding is this project's own.)
 abbrev pub device_pixels : ℕ → ℕ → ℕ
 device_pixels ratio units = (units * ratio + 320000) / 640000
 
--- the size of one of the boxes, in units or for the device pixels of the content box in those (Resize Observer, 3.4: calculate box size)
+-- the size of one of the boxes: in units, or for the device-pixel content box in device pixels (Resize Observer, 3.4: calculate box size)
 abbrev pub size_by : ℕ → BoxKind → Box → ℕ × ℕ
 size_by ratio Content box = content_size box
 size_by ratio Border box = border_size box
@@ -95,7 +94,7 @@ unfoldable pub size_of : Tree → Screen → ℕ → BoxKind → Extent
 unfolding box_of
 size_of tree screen n kind = extent_of (unwrap_or (option_map (size_by (screen.ratio) kind) (box_of tree screen n)) (0, 0))
 
--- the content's corner in the padding box, which is the left and top paddings
+-- the content box's corner in the padding box, which is the left and top paddings; 0 by 0 without a box
 unfoldable pub corner_of : Tree → Screen → ℕ → Extent
 unfolding box_of
 corner_of tree screen n = extent_of (unwrap_or (option_map content_corner (box_of tree screen n)) (0, 0))
@@ -105,7 +104,7 @@ unfoldable pub is_scroller : Tree → Screen → ℕ → Bool
 unfolding has_box
 is_scroller tree screen n = has_box tree screen n && is_scroll_container (nodes_of tree n)
 
--- the scrolling range, 0 by 0 for an element that is no scroll container with a box
+-- the scroll range, 0 by 0 for an element that isn't a scroll container with a box
 abbrev pub range_if : Tree → Screen → ℕ → Bool → ℕ × ℕ
 range_if tree screen n true = range_of (nodes_of tree) (view_at tree screen n) n
 range_if tree screen n false = (0, 0)
@@ -118,7 +117,7 @@ unfoldable pub scroll_range : Tree → Screen → Container → Extent
 unfolding is_scroller view_of range_of range_of_view
 scroll_range tree screen target = extent_of (range_by tree screen target)
 
--- the scroll offset in force
+-- the scroll offset in force: the stored position, limited to the scroll range
 unfoldable pub scroll_offset : Tree → Screen → Scrolls → Container → Extent
 unfolding scroll_range
 scroll_offset tree screen scrolls target = offset_within target (scroll_range tree screen target) scrolls

@@ -7,6 +7,6 @@ use Rattle.page_model.specs.Lookups.{change_at}
 abbrev pub with_query_list : ℕ → List MediaQuery → Bool → List QueryList → List QueryList
 with_query_list document query matched queries = queries ++ record { document = document; query = query; matched = matched } ∷ []
 
--- the state of a query list as it was evaluated last
+-- a query list with the state of its last evaluation
 abbrev pub with_state : Bool → ℕ → List QueryList → List QueryList
 with_state matched query queries = change_at (λ (it : QueryList). record it { matched = matched }) query queries

@@ -1,11 +1,11 @@
--- That each number in a world is the number of something, so that no lookup ever comes to a default; and that nothing is
--- stored past what there is, so that what is made later begins unscrolled, with no size noted and no notify task queued.
+-- Each number in a world is the number of something that exists, so no lookup ever returns a default; and nothing is stored beyond
+-- what exists, so what is created later begins unscrolled, with no size noted and no notify task queued.
 use Rattle.std.specs.Prelude.{ℕ, ◌<◌, ◌≤◌, List, length, IfSome, ⊤}
 use Rattle.std.specs.List.{AllByRecursion}
 use Rattle.page_model.specs.World.{Element, Document, Tree, Scrolls, Container, InElement, InDocument, Thing, DocumentThing, ElementThing, ResizeObserverThing, IntersectionObserverThing, QueryListThing, Observation, ResizeObserver, Root, ImplicitRoot, DocumentRoot, ElementRoot, Registration, Entry, IntersectionObserver, EventTarget, ElementTarget, DocumentTarget, WindowTarget, QueryTarget, Listener, FrameCallback, Timer, Task, Notify, Posted, World}
 use Rattle.page_model.specs.Operands.{Present, NoEntry, ResizeEntry, IntersectionEntry}
 
--- how much there is of each thing
+-- how many things of each kind exist
 pub record Counts : Type 0 where
   pub elements : ℕ
   pub documents : ℕ
@@ -96,7 +96,7 @@ abbrev pub IsTaskIn : Counts → Task → Type 0
 IsTaskIn counts (Notify document) = document < counts.documents
 IsTaskIn counts (Posted document handler) = document < counts.documents × handler < counts.handlers
 
--- the parts of a world, with numbers below these counts
+-- all numbers in the parts of a world are below these counts
 pub record IsWithin (counts : Counts) (world : World) : Type 0 where
   pub top : 0 < counts.documents
   pub tree : IsTreeIn counts world.tree
@@ -116,7 +116,7 @@ pub record IsWithin (counts : Counts) (world : World) : Type 0 where
 abbrev pub IsInRange : ℕ → World → Type 0
 IsInRange handlers world = IsWithin (counts_of handlers world) world
 
--- the target of the present entry
+-- the target of the current entry is an existing element
 abbrev pub IsPresentIn : World → Present → Type 0
 IsPresentIn world NoEntry = ⊤
 IsPresentIn world (ResizeEntry target) = target < length world.tree.elements

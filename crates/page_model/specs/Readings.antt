@@ -1,5 +1,5 @@
--- What the reading command shows (CSSOM View, 6: getBoundingClientRect, scrollLeft and scrollTop; 4: innerWidth,
--- innerHeight, scrollX and scrollY).
+-- What the command `read` reports (CSSOM View, 6: getBoundingClientRect, scrollLeft and scrollTop; 4: innerWidth, innerHeight, scrollX
+-- and scrollY).
 use Rattle.std.specs.Prelude.{ℕ, List, pos, ◌+ℤ◌, Bool, true, false}
 use Rattle.px_units.specs.declared.BoxKind.TheVariants.{Border}
 use Rattle.px_units.specs.declared.Point.{Point}
@@ -21,13 +21,13 @@ rect_of corner size = record {
 abbrev pub point_at : Extent → Point
 point_at extent = record { left = pos (extent.across); top = pos (extent.down) }
 
--- the scroll offset in force of an element, none where it is no scroll container with a box, as a root element never is
+-- the scroll offset in force of an element: 0 by 0 if it isn't a scroll container with a box, which a root element never is
 abbrev pub shown_scroll : Tree → Screen → Scrolls → ℕ → Bool → Extent
 shown_scroll tree screen scrolls n true = scroll_offset tree screen scrolls (InElement n)
 shown_scroll tree screen scrolls n false = no_extent
 
--- for an element its border box in its document's viewport, all zeros without a box; for a document its viewport; and the
--- scroll offset in force
+-- for an element its border box in its document's viewport, all zeros without a box; for a document its viewport; for both the scroll
+-- offset in force
 abbrev pub reading_of : List Name → Tree → Screen → Scrolls → Container → TraceLine
 reading_of names tree screen scrolls (InElement n) =
     ReadLine

@@ -1,4 +1,4 @@
--- Resize observers and what commands make of them (Resize Observer, 2.1 and 3).
+-- Resize observers, and how commands change them (Resize Observer, 2.1 and 3).
 use Rattle.std.specs.Prelude.{ℕ, suc, Bool, not, ◌==◌, Option, List, [], ◌∷◌, ◌++◌, length, filter, sum_by}
 use Rattle.std.specs.List.{list_any}
 use Rattle.px_units.specs.declared.BoxKind.{BoxKind}
@@ -15,11 +15,11 @@ is_observed n targets = list_any (λ each. each.target == n) targets
 abbrev pub without_observed : ℕ → List Observation → List Observation
 without_observed n targets = filter (λ each. not (each.target == n)) targets
 
--- the observations that all resize observers hold
+-- the number of observations of all resize observers together
 abbrev pub resize_observations : ResizeObservers → ℕ
 resize_observations it = sum_by (λ (observer : ResizeObserver). length (observer.targets)) it.made
 
--- observing: a target that is there is unobserved first
+-- observe(): an existing observation of the target is removed first (Resize Observer, 2.1)
 abbrev pub with_resize_target : ℕ → ℕ → BoxKind → ResizeObservers → ResizeObservers
 with_resize_target observer n observed it =
     change_resize_observer
@@ -29,7 +29,7 @@ with_resize_target observer n observed it =
     observer
     (record it { given = suc it.given })
 
--- an observation taken out of the observation targets alone
+-- unobserve(): removes an observation from [[observationTargets]] only
 abbrev pub without_resize_target : ℕ → ℕ → ResizeObservers → ResizeObservers
 without_resize_target observer n it = change_resize_observer (λ each. record each { targets = without_observed n (each.targets) }) observer it
 

@@ -5,7 +5,7 @@ use Rattle.page_model.specs.World.{Extent, Container, InElement, InDocument, Scr
 use Rattle.page_model.specs.Lookups.{no_extent, same_extent, is_same_container, entry_or, put_at, change_at}
 use Rattle.page_model.specs.Edits.{kept_within}
 
--- the stored position, at the start where nothing is stored
+-- the stored scroll position, 0 by 0 if none is stored
 abbrev pub position_of : Container → Scrolls → Extent
 position_of (InElement n) it = entry_or no_extent it.elements n
 position_of (InDocument document) it = entry_or no_extent it.documents document
@@ -17,7 +17,7 @@ pending_of document it = entry_or [] it.pending document
 abbrev pub lesser_extent : Extent → Extent → Extent
 lesser_extent a b = record { across = min a.across b.across; down = min a.down b.down }
 
--- the offset in force where a target can be scrolled within a range
+-- the offset in force of a target with this scroll range: its stored position, limited to the range
 abbrev pub offset_of : Container → Extent → Scrolls → Extent
 offset_of target range it = lesser_extent (position_of target it) range
 
@@ -28,11 +28,11 @@ with_position (InDocument document) position it = record it { documents = put_at
 abbrev pub with_listed : Container → List Container → List Container
 with_listed target pending = cond (list_any (is_same_container target) pending) pending (pending ++ target ∷ [])
 
--- a target put last on a document's pending list, unless it is there
+-- a target appended to a document's pending list, unless it is there already
 abbrev pub with_pending : ℕ → Container → Scrolls → Scrolls
 with_pending document target it = record it { pending = put_at [] document (with_listed target (pending_of document it)) (it.pending) }
 
--- a document's pending list taken
+-- a document's pending list cleared
 abbrev pub without_pending : ℕ → Scrolls → Scrolls
 without_pending document it = record it { pending = change_at (λ (pending : List Container). []) document (it.pending) }
 
@@ -47,7 +47,7 @@ abbrev pub moved_unless : Bool → ℕ → Container → Extent → Scrolls → 
 moved_unless true document target position it = it
 moved_unless false document target position it = with_pending document target (with_position target position it)
 
--- a target scrolled to a position within its range: where that is the offset in force, nothing changes; else the position
--- is stored, and the target is put on the document's pending list
+-- a target scrolled to a position within its range: if that is already the offset in force, nothing changes; else the position is
+-- stored, and the target is put on the document's pending list
 abbrev pub scrolled : ℕ → Container → Extent → Extent → Scrolls → Scrolls
 scrolled document target position range it = moved_unless (stays target position range it) document target position it

@@ -1,5 +1,5 @@
--- What is shown of a page: elements and documents, the screen of the top document, and the scroll positions. Boxes, places,
--- clips and findings are read from these alone. Sizes are read from the first two, so that no scroll changes one.
+-- What determines how a page is shown: elements and documents, the screen of the top document, and the scroll positions. Boxes, places,
+-- clips and findings depend on these only; sizes depend on the first two only, so that scrolling never changes a size.
 use Rattle.std.specs.Prelude.{ℕ, Bool, Option}
 use Rattle.px_units.specs.declared.BoxKind.{BoxKind}
 use Rattle.px_units.specs.declared.Point.{Point}
@@ -15,11 +15,11 @@ pub record Shown : Type 0 where
 abbrev pub shown_with : Tree → Screen → Scrolls → Shown
 shown_with tree screen scrolls = record { tree = tree; screen = screen; scrolls = scrolls }
 
--- that of a world
+-- those of a world
 abbrev pub shown_of : World → Shown
 shown_of world = record { tree = world.tree; screen = world.viewports.screen; scrolls = world.scrolls }
 
--- what is read of it
+-- what is computed from it
 
 abbrev pub has_box : Shown → ℕ → Bool
 has_box shown n = boxes.has_box (shown.tree) (shown.screen) n

@@ -1,5 +1,5 @@
--- What a step comes to: a value, an exception that it throws, or a limit that it meets. One that throws or meets a limit
--- has no other effect.
+-- The result of a step: a value, an exception that it throws, or a limit that it meets. A step that throws or meets a limit has no
+-- other effect.
 use Rattle.std.specs.Prelude.{ℕ, Bool, true, false, ◌||◌, nat_lt, Option, Some, None, List, []}
 use Rattle.text_io.specs.declared.kinds.ThrowKind.{ThrowKind}
 use Rattle.text_io.specs.declared.kinds.LimitKind.{LimitKind}
@@ -37,7 +37,7 @@ becomes world = Did (record { world = world; lines = [] })
 abbrev pub writes : List TraceLine → World → Step Effect
 writes lines world = Did (record { world = world; lines = lines })
 
--- a value that has to be there
+-- the value of an option; without one, the exception is thrown
 abbrev pub required : {A : Type 0} → ThrowKind → Option A → Step A
 required exception None = Threw exception
 required exception (Some value) = Did value
@@ -50,11 +50,11 @@ abbrev pub met_unless : Bool → LimitKind → Step (Unit {0})
 met_unless true limit = Did tt
 met_unless false limit = Met limit
 
--- room for one more where so many are there, in a world of this version
+-- meets the limit unless there is room for one more: unless `count` is below the limit of this version
 abbrev pub room : Version → LimitKind → ℕ → Step (Unit {0})
 room version limit count = met_unless (nat_lt count (limit_number version limit)) limit
 
--- the same, but where what is asked for is there already no room is needed
+-- the same, but no room is needed if what is asked for exists already
 abbrev pub room_unless : Version → Bool → LimitKind → ℕ → Step (Unit {0})
 room_unless version already limit count = met_unless (already || nat_lt count (limit_number version limit)) limit
 

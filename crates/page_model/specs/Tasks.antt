@@ -8,7 +8,7 @@ abbrev pub is_posted : Task → Bool
 is_posted (Notify document) = false
 is_posted (Posted document handler) = true
 
--- the posted tasks that wait
+-- the number of posted tasks that are queued
 abbrev pub posted_tasks : List Task → ℕ
 posted_tasks tasks = count_by is_posted tasks
 

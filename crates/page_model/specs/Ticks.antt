@@ -1,5 +1,5 @@
--- A tick: the timers due, one update of the rendering, and the queued tasks (HTML, event loops: update the rendering). The
--- order of the three, and that no update is skipped, is this project's own.
+-- A tick: the timers that are due, one update of the rendering, and the queued tasks (HTML, event loops: update the rendering). The
+-- order of the three, and that no update is skipped, are this project's own.
 use Rattle.std.specs.Prelude.{ℕ, Bool, cond, not, ◌==◌, ◌&&◌, nat_lt, List, [], ◌∷◌, length, Some}
 use Rattle.text_io.specs.declared.kinds.EventKind.TheVariants as events
 use Rattle.text_io.specs.declared.kinds.ThrowKind.TheVariants.{RangeError}
@@ -24,18 +24,18 @@ use Rattle.page_model.specs.Loop.{resize_loop}
 
 -- timers -------------------------------------------------------------------------------------------------------------------
 
--- a line that is said where a document is Active
+-- a line that is written only if a document is Active
 abbrev pub line_while_active : Tree → ℕ → TraceLine → List TraceLine
 line_while_active tree document line = cond (is_active tree document) (line ∷ []) []
 
--- a timer is taken out, its line is said, and its callback is called
+-- removes a timer and, if its document is Active, writes its line and invokes its callback
 abbrev pub run_timer : Script → Timer → World → Said World
 run_timer script timer world =
     say (line_while_active (world.tree) (timer.document) (TimerLine (document_text (world.names) (timer.document)) (timer.key)))
     (record world { timers = timer_taken (timer.serial) (world.timers) })
     followed_by call script (timer.document) (Some (timer.handler)) NoEntries
 
--- the timers that are due as the tick begins, each where it still stands (HTML, timers)
+-- runs the timers that are due when the tick begins, each unless it has been cleared since (HTML, timers)
 unfoldable pub run_timers : Script → World → Said World
 unfolding for_each call ◌followed_by◌
 run_timers script world =
@@ -43,7 +43,8 @@ run_timers script world =
 
 -- the parts of an update, for one document ---------------------------------------------------------------------------------
 
--- the resize steps: the size is noted; the first time nothing more is done (CSSOM View, 13: run the resize steps)
+-- the resize steps: the size is noted, and the event is fired if it differs from the size noted before. The first time there is none, so
+-- no event is fired (CSSOM View, 13: run the resize steps)
 unfoldable pub resize_steps : Script → ℕ → World → Said World
 unfolding fire viewport_of
 resize_steps script document world =
@@ -57,7 +58,8 @@ abbrev pub event_target_of : Container → EventTarget
 event_target_of (InElement element) = ElementTarget element
 event_target_of (InDocument document) = DocumentTarget document
 
--- the scroll steps: the pending list is taken whole (CSSOM View, 13: run the scroll steps)
+-- the scroll steps: the pending list is copied and cleared, and the event is fired at each target in the copy (CSSOM View, 13: run the
+-- scroll steps)
 unfoldable pub scroll_steps : Script → ℕ → World → Said World
 unfolding for_each fire
 scroll_steps script document world =
@@ -78,20 +80,20 @@ evaluate script document query world =
     let it = query_list_at (world.queries) query in
     only_if (λ now. evaluated script query (matches_now now document (it.query)) now) world (it.document == document)
 
--- evaluate media queries and report changes (CSSOM View, 4.2), by place, since a listener may make query lists
+-- evaluate media queries and report changes (CSSOM View, 4.2), by index, since a listener may create query lists
 unfoldable pub media_steps : Script → ℕ → World → Said World
 unfolding by_place fire matches_now
 media_steps script document world =
     by_place (λ now. length (now.queries)) (λ now. is_active (now.tree) document) (evaluate script document) world
 
--- a frame callback is taken out, its line is said, and it is called
+-- removes a frame callback, writes its line, and invokes it
 abbrev pub run_frame_callback : Script → FrameCallback → World → Said World
 run_frame_callback script callback world =
     say (FrameLine (document_text (world.names) (callback.document)) (callback.key) ∷ [])
     (record world { frame_callbacks = frame_callback_taken (callback.serial) (world.frame_callbacks) })
     followed_by call script (callback.document) (Some (callback.handler)) NoEntries
 
--- run the animation frame callbacks that were requested before, each where it still stands (HTML, animation frames)
+-- run the animation frame callbacks: those requested before this step, each unless it has been cancelled since (HTML, animation frames)
 unfoldable pub frame_steps : Script → ℕ → World → Said World
 unfolding for_each call ◌followed_by◌
 frame_steps script document world =
@@ -103,12 +105,13 @@ frame_steps script document world =
 abbrev pub intersection_steps : ℕ → World → Said World
 intersection_steps document world = silent (update_intersections document world)
 
--- the parts in their order
+-- the parts of an update, in their order
 abbrev pub parts_of_update : Script → List (ℕ → World → Said World)
 parts_of_update script =
     resize_steps script ∷ scroll_steps script ∷ media_steps script ∷ frame_steps script ∷ resize_loop script ∷ intersection_steps ∷ []
 
--- update the rendering: each part over all the documents that are Active as it begins, each one while it is
+-- update the rendering: each part is run for all documents that were Active when the update began, except those that no longer are when
+-- their turn comes
 unfoldable pub update_rendering : Script → World → Said World
 unfolding for_each active_documents resize_steps scroll_steps media_steps frame_steps resize_loop update_intersections
 update_rendering script world =
@@ -129,12 +132,12 @@ abbrev pub run_first : Script → List Task → World → Said World
 run_first script [] world = silent world
 run_first script (task ∷ others) world = run_task script task (record world { tasks = others })
 
--- the first task is taken off and run, until none is left
+-- takes the first task off the queue and runs it, until none is left
 unfoldable pub run_tasks : Script → World → Said World
 unfolding repeat notify call ◌followed_by◌
 run_tasks script world = repeat (λ now. has_tasks (now.tasks)) (λ now. run_first script (now.tasks) now) most_steps world
 
--- the clock doesn't go back
+-- sets the clock, which can't go back
 abbrev pub time_set : ℕ → World → Step World
 time_set time world = cond (nat_lt time world.clock) (Threw RangeError) (Did (record world { clock = time }))
 

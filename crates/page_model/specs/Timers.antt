@@ -1,4 +1,4 @@
--- Timers (HTML, timers): by key in a document, in order of setting.
+-- Timers (HTML, timers): by document and key, in the order in which they were set.
 use Rattle.std.specs.Prelude.{ℕ, Bool, cond, ◌&&◌, not, ◌==◌, nat_le, List, [], ◌∷◌, filter, bytes_eq}
 use Rattle.std.specs.List.{list_any}
 use Rattle.page_model.specs.World.{Timer, Table}
@@ -21,7 +21,7 @@ abbrev pub put_timer : Timer → List Timer → List Timer
 put_timer timer [] = timer ∷ []
 put_timer timer (first ∷ others) = cond (nat_le timer.due first.due) (timer ∷ first ∷ others) (first ∷ put_timer timer others)
 
--- by due time, and where these are equal by creation, which is the order that they stand in
+-- sorted by due time; timers with equal due times keep their order in the list, which is that of creation
 abbrev pub by_due_time : List Timer → List Timer
 by_due_time [] = []
 by_due_time (timer ∷ others) = put_timer timer (by_due_time others)
@@ -30,10 +30,10 @@ by_due_time (timer ∷ others) = put_timer timer (by_due_time others)
 abbrev pub due_timers : ℕ → Table Timer → List Timer
 due_timers now timers = by_due_time (filter (λ (timer : Timer). nat_le timer.due now) (timers.held))
 
--- whether a timer that was copied still stands: one that was cleared and set anew is another
+-- whether a timer that was copied is still in the list: one that was cleared and set again is a different one
 abbrev pub timer_stands : Timer → Table Timer → Bool
 timer_stands timer timers = list_any (λ (each : Timer). each.serial == timer.serial) (timers.held)
 
--- once a timer was taken out to be run, by its serial number
+-- without the timer that is about to run, given by its serial number
 abbrev pub timer_taken : ℕ → Table Timer → Table Timer
 timer_taken serial timers = kept (λ (each : Timer). not (each.serial == serial)) timers

@@ -1,10 +1,10 @@
--- The world of a page, a record of parts: plain lists, and no box, clip or other kept result (DOM; HTML, event loops and
--- documents; Resize Observer, 3; Intersection Observer, 3.1). Elements, documents, observers, query lists and handlers are
--- named by their numbers, from 0 in order of making. Lengths are in units of 1/64 pixel, times in milliseconds.
+-- The world of a page, a record of parts: plain lists, and no box, clip or other kept result (DOM; HTML, event loops and documents;
+-- Resize Observer, 3; Intersection Observer, 3.1). Elements, documents, observers, query lists and handlers are referred to by number,
+-- from 0 in order of creation. Lengths are in units of 1/64 pixel, times in milliseconds.
 --
--- Each part is what one crate keeps, and a definition of what happens to a part takes that part and what it needs of
--- others. Some lists have an entry for each document or element but may end before a number: nothing is stored there then
--- (`entry_or` and `put_at` of Lookups), so that nothing is added to them when a document or an element is made.
+-- Each part is kept by one crate, and a definition that changes a part takes that part and what it needs of others. Some lists are
+-- indexed by document or element but may be shorter: nothing is stored then for the numbers beyond their end (`entry_or` and `put_at`
+-- of Lookups), so that nothing is added to them when a document or an element is created.
 use Rattle.std.specs.Prelude.{ℕ, Bool, List, Option}
 use Rattle.px_units.specs.declared.BoxKind.{BoxKind}
 use Rattle.px_units.specs.declared.Rect.{Rect}
@@ -21,7 +21,7 @@ pub record Extent : Type 0 where
 
 -- elements and documents -----------------------------------------------------------------------------------------------------
 
--- a root element has no parent; `document` is the node document, and `framed` the document of a frame
+-- a root element has no parent; `document` is the node document, and `framed` the document inside a frame
 pub record Element : Type 0 where
   pub item : Item
   pub parent : Option ℕ
@@ -29,8 +29,7 @@ pub record Element : Type 0 where
   pub document : ℕ
   pub framed : Option ℕ
 
--- a frame's document is Fresh until its frame first stands in the tree of an Active document, and Dead once it was
--- taken out of one
+-- a frame's document is Fresh until its frame is first in the tree of an Active document, and Dead once the frame was removed from one
 pub data DocumentState : Type 0 where
   Fresh : DocumentState
   Active : DocumentState
@@ -42,26 +41,26 @@ pub record Document : Type 0 where
   pub frame : Option ℕ
   pub root : Option ℕ
 
--- all elements and documents, whether they stand somewhere or not
+-- all elements and documents, whether or not they are in a tree
 pub record Tree : Type 0 where
   pub elements : List Element
   pub documents : List Document
 
--- an element or a document: where an element stands, as a child or as the root element; what is scrolled, a scroll container or a viewport;
--- and what holds boxes and clips them
+-- an element or a document: what an element is placed in, as a child or as the root element; what is scrolled, a scroll container or a
+-- viewport; and what holds boxes and clips them
 pub data Container : Type 0 where
   InElement : (element : ℕ) → Container
   InDocument : (document : ℕ) → Container
 
 -- viewports and scrolling ------------------------------------------------------------------------------------------------------
 
--- what the top document is shown on: the size of its viewport, and how many device pixels a pixel is, in hundredths of a percent (CSSOM
--- View, 4: devicePixelRatio)
+-- what the top document is shown on: the size of its viewport, and the number of device pixels per pixel, in hundredths of a percent
+-- (CSSOM View, 4: devicePixelRatio)
 pub record Screen : Type 0 where
   pub size : Extent
   pub ratio : ℕ
 
--- the screen, and for each document the size of its viewport that was noted at its last resize steps, if any
+-- the screen, and for each document the viewport size that its last resize steps noted, if any
 pub record Viewports : Type 0 where
   pub screen : Screen
   pub noted : List (Option Extent)
@@ -102,7 +101,7 @@ pub record ResizeObserver : Type 0 where
   pub active : List Observation
   pub skipped : List Observation
 
--- `given` is how many serial numbers were given to observations, so that it is the next one's
+-- `given` is the number of serial numbers assigned to observations so far, and so the next one
 pub record ResizeObservers : Type 0 where
   pub given : ℕ
   pub made : List ResizeObserver
@@ -112,7 +111,7 @@ pub data Root : Type 0 where
   DocumentRoot : (document : ℕ) → Root
   ElementRoot : (element : ℕ) → Root
 
--- what is found of a target in an update: areas in square units
+-- what an update finds for a target; areas are in square units
 pub record Finding : Type 0 where
   pub index : ℕ
   pub meets : Bool
@@ -127,7 +126,7 @@ pub record Entry : Type 0 where
   pub time : ℕ
   pub finding : Finding
 
--- no previous index stands for the standard's -1
+-- a `previous_index` of None stands for the standard's -1
 pub record Registration : Type 0 where
   pub serial : ℕ
   pub target : ℕ
@@ -144,7 +143,7 @@ pub record IntersectionObserver : Type 0 where
   pub registrations : List Registration
   pub queue : List Entry
 
--- `given` is how many serial numbers were given to registrations
+-- `given` is the number of serial numbers assigned to registrations so far
 pub record IntersectionObservers : Type 0 where
   pub given : ℕ
   pub made : List IntersectionObserver
@@ -186,15 +185,15 @@ pub data Task : Type 0 where
   Notify : (document : ℕ) → Task
   Posted : (document handler : ℕ) → Task
 
--- the entries of a table in order of making, and how many it ever gave a serial number to, which is the next one's
+-- the entries of a table in order of creation, and the number of serial numbers assigned so far, which is the next one
 pub record Table (A : Type 0) : Type 0 where
   pub given : ℕ
   pub held : List A
 
 -- the whole --------------------------------------------------------------------------------------------------------------------
 
--- `scroll_margins` are those of each intersection observer (Intersection Observer, 2.2: scrollMargin); `notifying` tells for each
--- document whether a notify task is queued; `version` is that of the script, which decides on limits and lines; `begun` is the number
+-- `scroll_margins` are those of each intersection observer (Intersection Observer, 2.2: scrollMargin); `notifying` says for each
+-- document whether a notify task is queued; `version` is that of the script, which determines limits and lines; `begun` is the number
 -- of commands begun
 pub record World : Type 0 where
   pub tree : Tree

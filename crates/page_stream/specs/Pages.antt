@@ -19,7 +19,7 @@ unfolding page_named
 page_lines number [] = []
 page_lines number (line ∷ lines) = page_line_before (page_named line) number (page_lines (number + 1) lines)
 
--- the page lines that name a page for the first time, where these pages were named before
+-- the page lines that name a page for the first time, given that these pages were named before
 unfoldable pub first_named : List (List ℕ) → List PageLine → List PageLine
 first_named before [] = []
 first_named before (it ∷ others) =
@@ -43,7 +43,7 @@ unfoldable pub is_stream : List ℕ → Bool
 unfolding page_named lines_of
 is_stream source = begins_with_page (lines_of source)
 
--- the first page line of a page more than so many, where there is one
+-- the line number at which one page more than so many is first named, if there is one
 unfoldable pub page_line_past : ℕ → List ℕ → Option ℕ
 unfolding page_starts
 page_line_past most source = option_map (λ start. start.line) (slice_get (page_starts source) most)

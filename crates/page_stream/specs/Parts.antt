@@ -1,5 +1,5 @@
--- Whose the lines of a stream are: a page line makes its page the current one, and every other line goes, with its line feed, to the
--- script of the current page. This form is this project's own choice.
+-- Which page each line of a stream belongs to: a page line makes its page the current one, and every other line, with its line feed,
+-- belongs to the script of the current page. This form is this project's own choice.
 use Rattle.std.specs.Prelude.{ℕ, ◌+◌, ◌==◌, List, [], ◌∷◌, ◌++◌, length, map, filter, slice_range, Option, Some, None, unwrap_or, bytes_eq, count_by}
 use Rattle.std.specs.List.{concat, position_or_len}
 use Rattle.trace_judge.specs.Lines.{lines_of}
@@ -7,7 +7,7 @@ use Rattle.page_stream.specs.declared.stream.Part.{Part}
 use Rattle.page_stream.specs.PageLines.{page_named}
 use Rattle.page_stream.specs.Pages.{pages_of}
 
--- a line that isn't a page line: the page that is current there, and its place in the source
+-- a line that isn't a page line: the page that is current at it, and where in the source it begins and ends
 pub record OwnedLine : Type 0 where
   pub page : List ℕ
   pub from : ℕ
@@ -17,7 +17,7 @@ abbrev pub owned_before : Option (List ℕ) → OwnedLine → List OwnedLine →
 owned_before None it others = it ∷ others
 owned_before (Some name) it others = others
 
--- the lines among these that aren't page lines. This page is current at the first of them, which begins here
+-- the lines among these that aren't page lines; `current` is the current page at the first of the lines, which begins at `from`
 unfoldable pub owned_lines : List ℕ → ℕ → List (List ℕ) → List OwnedLine
 unfolding page_named
 owned_lines current from [] = []
@@ -25,7 +25,7 @@ owned_lines current from (line ∷ lines) =
     owned_before (page_named line) (record { page = current; from = from; to = from + length line })
     (owned_lines (unwrap_or (page_named line) current) (from + length line) lines)
 
--- a line of the page at a place, by its number in that page's script: one more than the page has lines before
+-- a line of the page with this index, with its number in that page's script: one more than the number of the page's lines before it
 abbrev pub part_at : ℕ → List Part → OwnedLine → Part
 part_at place before it = record {
   line = count_by (λ part. part.page == place) before + 1;

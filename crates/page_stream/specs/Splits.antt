@@ -1,4 +1,4 @@
--- What is held of a stream while it is split: its lines so far, and the page that is current behind them.
+-- What holds for a stream while it is split: its lines so far, and the page that is current after them.
 use Rattle.std.specs.Prelude.{◌≡◌, ℕ, ◌+◌, ◌<◌, ◌≤◌, ◌==◌, List, [], ◌++◌, length, map, slice_index, bytes_eq, count_by}
 use Rattle.std.specs.List.{AllByRecursion, position_or_len}
 use Rattle.trace_judge.specs.Lines.{lines_of}
@@ -7,7 +7,7 @@ use Rattle.page_stream.specs.declared.splitting.Splitting.{Splitting}
 use Rattle.page_stream.specs.Pages.{PageLine, page_lines, first_named, page_starts}
 use Rattle.page_stream.specs.Parts.{OwnedLine, owned_lines, place_of, parts_behind}
 
--- the pages, how many lines each has, the place of the current one, and the parts, which are these lines
+-- the pages, how many lines each has, the index of the current one, and the parts, which are these lines
 pub record AreHeld (pages : List (List ℕ)) (lines : List ℕ) (current : ℕ) (parts : List Part) (owned : List OwnedLine) (page : List ℕ) : Type 0 where
   pub parts_are : parts ≡ parts_behind pages [] owned
   pub as_many : length lines ≡ length pages
@@ -18,7 +18,7 @@ pub record AreHeld (pages : List (List ℕ)) (lines : List ℕ) (current : ℕ) 
 abbrev pub IsSplit : Splitting → List OwnedLine → List ℕ → Type 0
 IsSplit split owned page = AreHeld split.pages.items split.lines.items split.current split.parts.items owned page
 
--- so many lines of a source were taken, which end here, and the rest is left
+-- so many lines of a source were taken, which end at `from`, and the rest is left
 pub record SplitTo (source : List ℕ) (split : Splitting) (most number from : ℕ) (rest : List ℕ) : Type 0 where
   pub starts : List PageLine
   pub owned : List OwnedLine

@@ -16,52 +16,52 @@ pub data InsetValue : Type 0 where
   InsetPixels : (units : ℤ) → InsetValue
   InsetPercentage : (hundredths : ℤ) → InsetValue
 
--- at most the largest length, a bound of this project
+-- a length capped at the largest one, which is a bound of this project
 abbrev pub cap : ℕ → ℕ
 cap units = min units 2147483647
 
--- the part of a basis that so many hundredths of a percent are, cut to units
+-- so many hundredths of a percent of a basis, rounded down to units
 abbrev pub part : ℕ → ℕ → ℕ
 part hundredths basis = (basis * hundredths) / 10000
 
--- the length that a value gives against a basis, none for `auto`
+-- the length that a value resolves to against a basis, None for `auto`
 abbrev pub resolved : LengthValue → ℕ → Option ℕ
 resolved Automatic basis = None
 resolved (Pixels units) basis = Some (cap units)
 resolved (Percentage hundredths) basis = Some (cap (part hundredths basis))
 
--- as far from 0 as the largest length at most, a bound of this project
+-- a signed length clamped to the largest length on both sides of 0, which is a bound of this project
 abbrev pub clamped : ℤ → ℤ
 clamped units = int_max (neg_ℤ (pos 2147483647)) (int_min (pos 2147483647) units)
 
--- the part of a basis that so many hundredths of a percent are, cut toward zero
+-- so many hundredths of a percent of a basis, truncated toward zero
 abbrev pub signed_part : ℤ → ℕ → ℤ
 signed_part hundredths basis = int_div (pos basis *ℤ hundredths) (pos 10000)
 
--- what an inset gives against a basis, which may be indefinite: none for `auto`, and for a percentage without a basis
+-- what an inset resolves to against a basis that may be indefinite: None for `auto`, and for a percentage without a basis
 abbrev pub inset_against : InsetValue → Option ℕ → Option ℤ
 inset_against AutomaticInset basis = None
 inset_against (InsetPixels units) basis = Some units
 inset_against (InsetPercentage hundredths) basis = option_map (λ size. clamped (signed_part hundredths size)) basis
 
--- a difference of lengths, and 0 for a negative one
+-- a difference of lengths, or 0 if it is negative
 abbrev pub at_least_zero : ℤ → ℕ
 at_least_zero (pos units) = units
 at_least_zero (negsuc units) = 0
 
--- what a `Length` stands for where it is none of an inset
+-- what a `Length` stands for if it isn't the value of an inset
 abbrev pub seen_length : Length → LengthValue
 seen_length Auto = Automatic
 seen_length (Px px) = Pixels (unsigned_abs px.0)
 seen_length (Percent percent) = Percentage (unsigned_abs percent.0)
 
--- what a `Length` stands for where it is one of an inset
+-- what a `Length` stands for if it is the value of an inset
 abbrev pub seen_inset : Length → InsetValue
 seen_inset Auto = AutomaticInset
 seen_inset (Px px) = InsetPixels (px.0)
 seen_inset (Percent percent) = InsetPercentage (percent.0)
 
--- no length of a style but its insets is negative
+-- whether a length isn't negative; in a style only insets may be negative
 abbrev pub IsNotNegative : Length → Type 0
 IsNotNegative Auto = Unit {0}
 IsNotNegative (Px px) = pos 0 ≤ℤ px.0

@@ -1,5 +1,5 @@
--- Rectangles by their four edges in units of 1/64 pixel, x to the right and y downwards. An edge belongs to the
--- rectangle, so that two rectangles that only touch have a common part (Intersection Observer, 3.2.7 and 3.2.8).
+-- Rectangles given by their four edges in units of 1/64 pixel, x to the right and y downwards. An edge belongs to the rectangle, so two
+-- rectangles that only touch have an intersection (Intersection Observer, 3.2.7 and 3.2.8).
 use Rattle.std.specs.Prelude.{ℕ, ◌*◌, Bool, cond, ◌&&◌, ℤ, pos, negsuc, ◌≤ℤ◌, ◌+ℤ◌, ◌-ℤ◌, unsigned_abs, int_le, Option, Some, None}
 use Rattle.std.specs.Int.{int_min, int_max}
 use Rattle.px_units.specs.declared.Rect.{Rect}
@@ -15,11 +15,11 @@ pub record RectInReach (r : Rect) : Type 0 where
   pub right : InReach r.right
   pub bottom : InReach r.bottom
 
--- whether no edge crosses the opposite one
+-- whether no edge is beyond the opposite one
 abbrev pub has_points : Rect → Bool
 has_points r = int_le r.left r.right && int_le r.top r.bottom
 
--- the greatest left and top and the least right and bottom
+-- the greater left and top edges and the lesser right and bottom edges
 abbrev pub overlap : Rect → Rect → Rect
 overlap a b = record {
   left = int_max a.left b.left;
@@ -28,11 +28,11 @@ overlap a b = record {
   bottom = int_min a.bottom b.bottom;
 }
 
--- the common part, none where no point is common
+-- the intersection, None if there is no common point
 abbrev pub meeting : Rect → Rect → Option Rect
 meeting a b = cond (has_points (overlap a b)) (Some (overlap a b)) None
 
--- moved to the right and downwards
+-- a rectangle moved to the right and downwards
 abbrev pub shifted : Rect → ℤ → ℤ → Rect
 shifted r left top = record {
   left = r.left +ℤ left;
@@ -41,18 +41,18 @@ shifted r left top = record {
   bottom = r.bottom +ℤ top;
 }
 
--- in square units, 0 where an edge crosses the opposite one
+-- in square units, 0 if an edge is beyond the opposite one
 abbrev pub area : Rect → ℕ
 area r = cond (has_points r) (unsigned_abs (r.right -ℤ r.left) * unsigned_abs (r.bottom -ℤ r.top)) 0
 
--- a point within the edges or on them
+-- the point is within the edges or on them
 pub record Holds (r : Rect) (x y : ℤ) : Type 0 where
   pub right_of_left : r.left ≤ℤ x
   pub left_of_right : x ≤ℤ r.right
   pub below_top : r.top ≤ℤ y
   pub above_bottom : y ≤ℤ r.bottom
 
--- a point of a part that may not be there
+-- the point is in a rectangle that may be absent
 abbrev pub HeldBy : Option Rect → ℤ → ℤ → Type 0
 HeldBy None x y = ⊥
 HeldBy (Some r) x y = Holds r x y

@@ -1,9 +1,9 @@
--- Lines and words of a text whose lines may have so many bytes. With 4,096 it is the lexing of a script.
+-- The lines and words of a text whose lines may have so many bytes. With 4,096 this is the lexing of a script.
 use Rattle.std.specs.Prelude.{ℕ, Bool, cond, ◌&&◌, ◌||◌, ◌==◌, nat_lt, nat_le, List, [], ◌∷◌}
 use Rattle.word_model.specs.Numbers.{begins_with}
 use Rattle.script_model.specs.Lexing.{Scan, Lexed, Whole, ByteClass, LineFeedByte, LongByte, SpaceByte, WordByte, ForbiddenByte, line_start, close_word, add_line, ends, next_line, look_as}
 
--- what a byte is in a line; a carriage return stands directly before a line feed alone
+-- the role of a byte in a line; a carriage return is allowed only directly before a line feed
 unfoldable pub class_within : ℕ → ℕ → Bool → ℕ → ByteClass
 class_within most_line byte feed_next column =
     cond (byte == 10) LineFeedByte

@@ -1,4 +1,4 @@
--- Places kept while a text is read, what one byte does to them, and the scan that they stand for.
+-- The places kept while a text is read, how one byte changes them, and the scan that they stand for.
 use Rattle.std.specs.Prelude.{ℕ, ◌+◌, ◌-◌, ◌<◌, ◌≤◌, ◌≡◌, ◌⊎◌, Bool, true, false, cond, ◌==◌, List, [], ◌∷◌, ◌++◌, length, take, drop, get_or, slice_index, map, reverse, Option, Some, None}
 use Rattle.std.specs.List.{All}
 use Rattle.word_model.specs.Numbers.{begins_with}
@@ -9,8 +9,8 @@ use Rattle.script_lexer.specs.declared.places.Span.{Span}
 use Rattle.script_lexer.specs.declared.places.Line.{Line}
 use Rattle.script_lexer.specs.declared.places.LexFault.{LexFault}
 
--- lines and words so far, how many lines ended, and of the line that is read its start, its first word's number, the
--- start of the word that is read, and whether a comment began
+-- the lines and words so far, how many lines have ended, and for the line that is being read its start, the number of its first word, the
+-- start of the word that is being read, and whether a comment has begun
 pub record Places : Type 0 where
   pub lines : List Line
   pub words : List Span
@@ -27,17 +27,17 @@ abbrev pub closed_from : Option ℕ → ℕ → Places → Places
 closed_from None at p = p
 closed_from (Some from) at p = record p { words = p.words ++ (record { from = from; to = at } ∷ []); open_word = None }
 
--- the word that is read ends before this place
+-- the word that is being read ends before this place
 abbrev pub closed : ℕ → Places → Places
 closed at p = closed_from p.open_word at p
 
--- the line that is read is kept, if it has a word
+-- the line that is being read is kept, if it has a word
 abbrev pub line_kept : Places → Places
 line_kept p = cond (p.first == length p.words) p (record p {
   lines = p.lines ++ (record { number = p.ended + 1; start = p.start; first = p.first; count = length p.words - p.first } ∷ []);
 })
 
--- the next line begins behind this place
+-- the next line begins after this place
 abbrev pub next_line_at : ℕ → Places → Places
 next_line_at at p = record p { ended = p.ended + 1; start = at + 1; first = length p.words; in_comment = false }
 
@@ -46,7 +46,7 @@ begun_in true word byte at p = p
 begun_in false (Some from) byte at p = p
 begun_in false None byte at p = cond (byte == 35) (record p { in_comment = true }) (record p { open_word = Some at })
 
--- a byte of a word or of a comment stands at this place
+-- the byte at this place is part of a word or of a comment
 abbrev pub begun : ℕ → ℕ → Places → Places
 begun byte at p = begun_in p.in_comment p.open_word byte at p
 
@@ -72,16 +72,16 @@ kept_seen bytes p = map (line_seen bytes p.words) p.lines
 abbrev pub behind : List LineOfWords → Lexed → Lexed
 behind lines lexed = record { lines = lines ++ lexed.lines; ending = lexed.ending }
 
--- what the text gives, by what was read of it and what is to come
+-- the lines and ending of the whole text, from what was read of it and what is still to come
 abbrev pub to_come : ℕ → List ℕ → ℕ → Places → Lexed
 to_come most_line bytes at p = behind (kept_seen bytes p) (lex_within most_line (scan_seen bytes at p) (drop at bytes))
 
--- a word is read from within its line, and outside a comment
+-- the word that is being read, if any, begins within its line and outside a comment
 abbrev pub OpenIn : ℕ → ℕ → Bool → Option ℕ → Type 0
 OpenIn start at in_comment None = Unit
 OpenIn start at in_comment (Some from) = (start ≤ from) × (from < at) × (in_comment ≡ false)
 
--- what holds of the places between two bytes
+-- what holds for the places between two bytes
 pub record Sound (bytes : List ℕ) (at : ℕ) (p : Places) : Type 0 where
   pub inside : at ≤ length bytes
   pub start_before : p.start ≤ at
@@ -102,34 +102,34 @@ WentOn most_line bytes at p (Some fault) whole =
     (All (LineFits bytes p.words) p.lines) × (p.ended ≤ p.start) × (p.start ≤ length bytes)
     × (behind (kept_seen bytes p) (ends (fault_seen fault)) ≡ whole) × (lines_before (fault_seen fault) ≡ p.ended)
 
--- what the byte at a place is there
+-- the role of the byte at a place
 abbrev pub class_at : ℕ → List ℕ → ℕ → Places → ByteClass
 class_at most_line bytes at p = class_within most_line (get_or bytes at 0) (begins_with 10 (drop (at + 1) bytes)) (at - p.start + 1)
 
--- a text that has at a place the byte of these bytes, and there of the same class
+-- a text has the same byte at a place as these bytes, in the same role
 abbrev pub SameByte : ℕ → List ℕ → List ℕ → ℕ → Places → Type 0
 SameByte most_line bytes text at p =
     (at < length text) × (get_or text at 0 ≡ get_or bytes at 0) × (class_at most_line text at p ≡ class_at most_line bytes at p)
 
--- the byte at a place was looked at: each text with that byte goes on so, or ends here with this fault
+-- the byte at a place has been read: each text with that byte goes on in this way, or ends here with this fault
 abbrev pub Looked : ℕ → List ℕ → ℕ → Places → Places → Option LexFault → Type 0
 Looked most_line bytes at p q fault =
     (text : List ℕ) → SameByte most_line bytes text at p → Sound text at p → WentOn most_line text (at + 1) q fault (to_come most_line text at p)
 
--- how many of these bytes can be judged: a carriage return at the end waits for the byte behind it
+-- how many of these bytes can be classified: a carriage return at the end has to wait for the byte after it
 abbrev pub settled : List ℕ → ℕ
 settled bytes = cond (slice_index bytes (length bytes - 1) == 13) (length bytes - 1) (length bytes)
 
--- the bytes before a place can be judged, where this stands behind them all
+-- the bytes before a place can be classified, if `more` follows all of these bytes
 abbrev pub IsSettled : ℕ → List ℕ → List ℕ → Type 0
 IsSettled at bytes more = (at ≤ settled bytes) ⊎ (more ≡ [])
 
--- the bytes before a place were read: so goes each text that begins with all of these bytes
+-- the bytes before a place have been read: each text that begins with all of these bytes goes on in this way
 abbrev pub IsRead : ℕ → List ℕ → ℕ → Places → Option LexFault → Type 0
 IsRead most_line bytes at p fault =
     (more : List ℕ) → IsSettled at bytes more → WentOn most_line (bytes ++ more) at p fault (lexed_within most_line (bytes ++ more))
 
--- lines and words were added, and none is gone
+-- lines and words were added, and none was removed
 abbrev pub Grown : Places → Places → Type 0
 Grown p q = (take (length p.lines) q.lines ≡ p.lines) × (take (length p.words) q.words ≡ p.words)
 

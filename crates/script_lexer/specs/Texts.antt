@@ -1,4 +1,4 @@
--- What places in a text stand for: the words that they cut out of it.
+-- What places in a text stand for: the words between them.
 use Rattle.std.specs.Prelude.{◌≡◌, ℕ, ◌+◌, ◌-◌, ◌<◌, ◌≤◌, ◌==◌, List, length, take, drop, map, slice_index, Option, Some, None}
 use Rattle.std.specs.List.{All, fold, count_by}
 use Rattle.script_model.specs.Lexing.{Word, Line as LineOfWords, Ending, Whole, BadByte as BadByteAt, LongLine, Lexed}
@@ -66,23 +66,23 @@ lines_before (LongLine line) = line - 1
 abbrev pub InLine : ℕ → ℕ → Span → Type 0
 InLine start end span = (start ≤ span.from) × (span.from < span.to) × (span.to ≤ end)
 
--- how many line feeds stand before a place
+-- how many line feeds there are before a place
 abbrev pub feeds_before : ℕ → List ℕ → ℕ
 feeds_before place bytes = count_by (λ byte. byte == 10) (take place bytes)
 
--- a line begins at 0 and directly behind each line feed
+-- a line begins at 0 and directly after each line feed
 abbrev pub BeginsLine : List ℕ → ℕ → Type 0
 BeginsLine bytes place = 0 < place → slice_index bytes (place - 1) ≡ 10
 
--- a line that begins at its start, with the number that is due there, and whose words are there, each between its start
--- and the text's end
+-- the start of a line is where a line begins, its number is that of this line, and its words exist, each between its start and the end of
+-- the text
 pub record LineFits (bytes : List ℕ) (words : List Span) (line : Line) : Type 0 where
   pub begins : BeginsLine bytes line.start
   pub numbered : line.number ≡ feeds_before line.start bytes + 1
   pub counted : line.first + line.count ≤ length words
   pub within : All (InLine line.start (length bytes)) (line_words words line)
 
--- the bytes that a lexer was fed, and the most bytes that a line may have
+-- the bytes that a lexer was fed, and the maximum number of bytes of a line
 pub record Fed : Type 0 where
   pub text : List ℕ
   pub most_line : ℕ

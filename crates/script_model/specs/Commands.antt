@@ -1,5 +1,5 @@
--- The table of commands: the first word of a line, the forms of the parts behind it, and what they make. The commands
--- are this project's own choice; what they do follows the public standards and isn't said here.
+-- The table of commands: the first word of a line, the forms of the parts after it, and the value that they make. The commands are
+-- this project's own choice; what they do follows the public standards and isn't defined here.
 use Rattle.std.specs.Prelude.{List, [], ◌∷◌, codes}
 use Rattle.text_io.specs.declared.kinds.Version.{Version}
 use Rattle.text_io.specs.declared.kinds.Version.TheVariants.{First, Second}
@@ -7,7 +7,7 @@ use Rattle.script_model.specs.Syntax.{Action, Viewport, SetRatio, MakeBlock, Mak
 use Rattle.script_model.specs.Keywords.{Keyword, keyword}
 use Rattle.script_model.specs.Forms.{Form, NameForm, NodeForm, AimForm, HandlerForm, RootForm, LengthForm, SignedForm, PercentForm, WholeForm, EventForm, BoxForm, DimensionForm, DeclarationForm, JustForm, MarginForm, NumbersForm, QueryForm, From}
 
--- what a `when` asks: its words, and the test that they make
+-- the test of a `when`: the forms of its words, and the test that they make
 pub data TestShape : Type 0 where
   TestOf : (forms : List Form) (makes : From forms Test) → TestShape
 
@@ -20,7 +20,7 @@ tests =
     ∷ keyword (codes "seen") (TestOf [] Seen)
     ∷ []
 
--- what the first word of a line begins
+-- what the first word of a line introduces
 pub data Head : Type 0 where
   ActionHead : (forms : List Form) (makes : From forms Action) → Head
   TickHead : Head
@@ -29,7 +29,7 @@ pub data Head : Type 0 where
   HandlerHead : Head
   EndHead : Head
 
--- `io NAME DOCUMENT HANDLER root ROOT margin WORD* threshold NUMBER*`; in the second version `scroll WORD*` may stand before `threshold`
+-- `io NAME DOCUMENT HANDLER root ROOT margin WORD* threshold NUMBER*`; in version 2 `scroll WORD*` may come before `threshold`
 abbrev pub observer_forms : Version → List Form
 observer_forms version =
     NameForm
@@ -55,7 +55,7 @@ make_observer version name document handler root_word root margin_word margins t
       thresholds = thresholds;
     })
 
--- what first words begin in each version
+-- the first words of both versions, and what they introduce
 abbrev pub heads : Version → List (Keyword Head)
 heads version =
     keyword (codes "viewport") (ActionHead (LengthForm ∷ LengthForm ∷ []) Viewport)
@@ -96,11 +96,11 @@ heads version =
     ∷ keyword (codes "end") EndHead
     ∷ []
 
--- what one begins in the second version alone
+-- the first word that only version 2 has
 abbrev pub ratio_head : Keyword Head
 ratio_head = keyword (codes "ratio") (ActionHead (PercentForm ∷ []) SetRatio)
 
--- all that first words begin in a version
+-- all first words of a version
 abbrev pub heads_in : Version → List (Keyword Head)
 heads_in First = heads First
 heads_in Second = ratio_head ∷ heads Second

@@ -1,6 +1,6 @@
--- The forms that parts of a line have, and the reading of a line's parts from left to right. A fault is the column of the
--- first word that doesn't fit, or the column after the line's last word where a word is missing. The forms are this
--- project's own choice. A form that reads more in the second version of the language has the version.
+-- The forms of the parts of a line, and how a line's parts are read from left to right. A fault is the column of the first word that
+-- doesn't fit, or the column after the line's last word if a word is missing. The forms are this project's own choice. A form that
+-- accepts more in version 2 of the language carries the version.
 use Rattle.std.specs.Prelude.{ℕ, ℤ, ◌+◌, ◌-◌, Bool, ◌||◌, cond, List, [], ◌∷◌, drop, Option, Some, None, Result, Ok, Err, bytes_eq, codes}
 use Rattle.std.specs.List.{join_with_byte}
 use Rattle.word_model.specs.Numbers.{whole_of, length_of, signed_of, percent_of, number_of}
@@ -18,7 +18,7 @@ use Rattle.script_model.specs.Words.{name_of, node_of, aim_of, or_dash, just, ev
 use Rattle.script_model.specs.Properties.{property_of}
 use Rattle.script_model.specs.Media.{query_list}
 
--- what a reader reads of a line, with the words that are left
+-- what a reader reads from a line, with the words that are left, or a fault
 abbrev pub Taken : Type 0 → Type 0
 Taken A = Result (A × Row) ℕ
 
@@ -26,12 +26,12 @@ unfoldable pub next_in : List Word → Row → Taken Word
 next_in [] row = Err row.after
 next_in (w ∷ ws) row = Ok (w, record row { left = ws })
 
--- the next word, which is missing where none is left
+-- the next word; a fault if none is left
 unfoldable pub next_of : Row → Taken Word
 unfolding next_in
 next_of row = next_in row.left row
 
--- a word that this reader reads
+-- the next word, as this reader reads it
 unfoldable pub word_as : {A : Type 0} → (List ℕ → Option A) → Row → Taken A
 unfolding next_of
 word_as of row =
@@ -41,27 +41,27 @@ unfoldable pub none_in : List Word → Result (Unit {0}) ℕ
 none_in [] = Ok tt
 none_in (w ∷ ws) = Err w.column
 
--- no word is too many
+-- a fault if a word is left
 unfoldable pub none_left : Row → Result (Unit {0}) ℕ
 unfolding none_in
 none_left row = none_in row.left
 
--- a property that the version has, and a value of it
+-- a property of the version, and a value of the property
 unfoldable pub declaration_as : Version → Row → Taken Declaration
 unfolding word_as property_of
 declaration_as version row = word_as (property_of version) row >>= λ property. word_as property.0 property.1
 
--- the words before the first one at which a test holds
+-- the words before the first one that passes a test
 unfoldable pub words_before : (List ℕ → Bool) → List Word → List (List ℕ)
 words_before stops [] = []
 words_before stops (w ∷ ws) = cond (stops w.text) [] (w.text ∷ words_before stops ws)
 
--- that word with those after it
+-- that word and those after it
 unfoldable pub words_from : (List ℕ → Bool) → List Word → List Word
 words_from stops [] = []
 words_from stops (w ∷ ws) = cond (stops w.text) (w ∷ ws) (words_from stops ws)
 
--- a margin goes up to the word `threshold`, in the second version also to `scroll`
+-- a margin ends before the word `threshold`, in version 2 also before `scroll`
 abbrev pub ends_margin : Version → List ℕ → Bool
 ends_margin First word = bytes_eq word (codes "threshold")
 ends_margin Second word = bytes_eq word (codes "threshold") || bytes_eq word (codes "scroll")
@@ -75,7 +75,7 @@ margin_as version row =
       record row { left = words_from (ends_margin version) row.left },
     )
 
--- a margin behind the word `scroll`, where that stands next
+-- a margin after the word `scroll`, if that is the next word
 unfoldable pub scroll_in : List Word → Row → Taken (Option (List ℕ))
 unfolding margin_as
 scroll_in [] row = Ok (None, row)
@@ -84,7 +84,7 @@ scroll_in (w ∷ ws) row =
     (margin_as Second (record row { left = ws }) >>= λ margin. Ok (Some margin.0, margin.1))
     (Ok (None, row))
 
--- a scroll margin, which scripts of the first version don't have
+-- a scroll margin, which scripts of version 1 don't have
 unfoldable pub scroll_as : Version → Row → Taken (Option (List ℕ))
 unfolding scroll_in
 scroll_as First row = Ok (None, row)
@@ -105,12 +105,12 @@ numbers_of [] = Ok []
 numbers_of (w ∷ ws) =
     or_fault w.column (number_of w.text) >>= λ number. numbers_of ws >>= λ others. Ok (number ∷ others)
 
--- all words that are left, each a number
+-- all words that are left, each of which has to be a number
 unfoldable pub numbers_as : Row → Taken (List ℤ)
 unfolding numbers_of
 numbers_as row = numbers_of row.left >>= λ numbers. Ok (numbers, record row { left = [] })
 
--- the text from this word to the end of the line's last word, as media queries
+-- the text from this word to the end of the line's last word, as a media query list
 unfoldable pub query_from : Word → Row → Taken (List MediaQuery)
 unfolding query_list
 query_from first row =
@@ -140,7 +140,7 @@ pub data Form : Type 0 where
   NumbersForm : Form
   QueryForm : Form
 
--- what a part of this form stands for
+-- the type of value that a part of this form stands for
 abbrev pub Meant : Form → Type 0
 Meant NameForm = List ℕ
 Meant NodeForm = Operand
@@ -160,7 +160,7 @@ Meant (MarginForm version) = MarginTexts
 Meant NumbersForm = List ℤ
 Meant QueryForm = List MediaQuery
 
--- the part of this form that stands next in a line
+-- reads the next part of a line, which has to have this form
 unfoldable pub part_as : (form : Form) → Row → Taken (Meant form)
 unfolding word_as name_of node_of aim_of or_dash length_of signed_of percent_of whole_of lookup declaration_as just margins_as numbers_as query_as
 part_as NameForm row = word_as name_of row
@@ -181,12 +181,12 @@ part_as (MarginForm version) row = margins_as version row
 part_as NumbersForm row = numbers_as row
 part_as QueryForm row = query_as row
 
--- what makes a value of the parts of these forms
+-- the functions that make a value from the parts of these forms
 abbrev pub From : List Form → Type 0 → Type 0
 From [] A = A
 From (form ∷ forms) A = Meant form → From forms A
 
--- the value that the words of a line make, all of them
+-- the value that the words of a line make; all words have to be used
 unfoldable pub made : {A : Type 0} (forms : List Form) → From forms A → Row → Result A ℕ
 unfolding none_left part_as
 made [] value row = none_left row >>= λ end. Ok value

@@ -1,9 +1,9 @@
--- The scripts that the generator makes: a page of lazily loaded images in cards, scrolled four times. They are this
--- project's own choice.
+-- The scripts that the generator produces: a page of lazily loaded images in cards, scrolled four times. They are this project's own
+-- choice.
 use Rattle.std.specs.Prelude.{ℕ, zero, suc, ◌+◌, ◌*◌, ◌/◌, ◌%◌, List, [], ◌∷◌, ◌++◌, flat_map, codes}
 use Rattle.word_model.specs.Numbers.{decimal}
 
--- how many cards the script of a number has
+-- how many cards the script with a number has
 abbrev pub card_count : ℕ → ℕ
 card_count number = 1 + number % 2000
 
@@ -11,7 +11,7 @@ card_count number = 1 + number % 2000
 abbrev pub root_margin : ℕ → ℕ
 root_margin number = 200 + 100 * ((number / 2000) % 5)
 
--- a text with a number in it
+-- a number in decimal between two texts
 unfoldable pub around : List ℕ → ℕ → List ℕ → List ℕ
 unfolding decimal
 around front number back = front ++ decimal number ++ back
@@ -50,7 +50,7 @@ card_lines card =
     ∷ around (codes "io-observe lazy g") card []
     ∷ []
 
--- so many cards from this one on
+-- the lines of so many cards, starting with this one
 unfoldable pub cards_from : ℕ → ℕ → List (List ℕ)
 unfolding card_lines
 cards_from card zero = []
@@ -69,12 +69,12 @@ tail_lines =
     ∷ codes "tick 64"
     ∷ []
 
--- the lines of the script of a number
+-- the lines of the script with a number
 unfoldable pub generated_lines : ℕ → List (List ℕ)
 unfolding head_lines cards_from
 generated_lines number = head_lines (root_margin number) ++ cards_from 0 (card_count number) ++ tail_lines
 
--- its text: each line with its line feed
+-- its text: each line with a line feed
 unfoldable pub generated : ℕ → List ℕ
 unfolding generated_lines
 generated number = flat_map (λ line. line ++ (10 ∷ [])) (generated_lines number)

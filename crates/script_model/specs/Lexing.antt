@@ -1,42 +1,42 @@
--- Lines and words of a script's text, and the first fault of its bytes. All of this is this project's own choice.
--- Lines and columns are numbered from 1; a column is the place of a byte in its line.
+-- The lines and words of a script's text, and the first fault among its bytes. All of this is this project's own choice. Lines and
+-- columns are numbered from 1; a column is the position of a byte in its line.
 use Rattle.std.specs.Prelude.{ℕ, ◌+◌, ◌-◌, Bool, true, false, cond, ◌&&◌, ◌||◌, ◌==◌, nat_lt, nat_le, List, [], ◌∷◌, ◌++◌, length, take, reverse}
 use Rattle.word_model.specs.Numbers.{begins_with}
 use Rattle.text_io.specs.declared.kinds.LimitKind.TheVariants as limits
 use Rattle.text_io.specs.Limits.{common_limit}
 use Rattle.script_model.specs.Readers.{is_empty}
 
--- a longest run of bytes 33 to 126
+-- a maximal run of bytes from 33 to 126
 pub record Word : Type 0 where
   pub column : ℕ
   pub text : List ℕ
 
--- words of a line from left to right; `after` is the column after the line's last word, and `bytes` are the line's up
--- to there
+-- words of a line from left to right; `after` is the column after the line's last word, and `bytes` are the bytes of the line before
+-- that column
 pub record Row : Type 0 where
   pub left : List Word
   pub after : ℕ
   pub bytes : List ℕ
 
--- a line that has a word
+-- a line that has at least one word
 pub record Line : Type 0 where
   pub number : ℕ
   pub row : Row
 
--- how a text ends: whole, with the number of the line after its last one, or at a byte that no line may have, or at a
--- line's 4,097th byte
+-- how a text ends: completely, with the number of the line after its last one; at a byte that isn't allowed there; or at the 4,097th
+-- byte of a line
 pub data Ending : Type 0 where
   Whole : (next_line : ℕ) → Ending
   BadByte : (line column : ℕ) → Ending
   LongLine : (line : ℕ) → Ending
 
--- the lines before the ending, without those that have no word
+-- the lines before the ending, except those without a word
 pub record Lexed : Type 0 where
   pub lines : List Line
   pub ending : Ending
 
--- what was read of a line: `column` is that of its next byte, `words` those that are closed and `after` the column
--- after them. The bytes of the line, and of the word that is being read, stand last first
+-- what has been read of a line: `column` is that of its next byte, `words` are the complete words, and `after` is the column after
+-- them. The bytes of the line, and those of the word that is being read, are in reverse order
 pub record Scan : Type 0 where
   pub number : ℕ
   pub column : ℕ
@@ -70,7 +70,7 @@ unfoldable pub close_word : Scan → Scan
 unfolding word_closed
 close_word s = word_closed s.open_word s
 
--- one byte on
+-- moves on by one byte
 unfoldable pub passed : ℕ → Scan → Scan
 passed byte s = record s { column = s.column + 1; bytes = byte ∷ s.bytes }
 
@@ -78,7 +78,7 @@ unfoldable pub space : ℕ → Scan → Scan
 unfolding close_word passed
 space byte s = passed byte (close_word s)
 
--- a byte of a word, or of a comment, which a word that begins with `#` begins
+-- a byte of a word or of a comment; a comment starts at a word that begins with `#`
 unfoldable pub word_byte_in : Bool → Bool → ℕ → Scan → Scan
 unfolding passed
 word_byte_in true fresh byte s = passed byte s
@@ -89,7 +89,7 @@ unfoldable pub word_byte : ℕ → Scan → Scan
 unfolding word_byte_in is_empty
 word_byte byte s = word_byte_in s.in_comment (byte == 35 && is_empty s.open_word) byte s
 
--- the line so read stands before what follows, if it has a word
+-- the line that was read, if it has a word, before the lines that follow
 unfoldable pub line_before : List Word → Scan → Lexed → Lexed
 line_before [] s lexed = lexed
 line_before (w ∷ ws) s lexed = record lexed {
@@ -106,7 +106,7 @@ add_line s lexed = line_before s.words s lexed
 unfoldable pub ends : Ending → Lexed
 ends ending = record { lines = []; ending = ending }
 
--- what a byte is in a line
+-- the role of a byte in a line
 pub data ByteClass : Type 0 where
   LineFeedByte : ByteClass
   LongByte : ByteClass
@@ -114,7 +114,7 @@ pub data ByteClass : Type 0 where
   WordByte : ByteClass
   ForbiddenByte : ByteClass
 
--- a carriage return stands directly before a line feed alone
+-- a carriage return is allowed only directly before a line feed
 unfoldable pub class_of : ℕ → Bool → ℕ → ByteClass
 class_of byte feed_next column =
     cond (byte == 10) LineFeedByte
@@ -122,7 +122,7 @@ class_of byte feed_next column =
     (cond (byte == 32 || byte == 9 || (byte == 13 && feed_next)) SpaceByte
     (cond (nat_le 33 byte && nat_le byte 126) WordByte ForbiddenByte)))
 
--- one byte of a text, and how the text goes on
+-- what one byte of a text does, and how the scan continues
 unfoldable pub look_as : ByteClass → ℕ → Scan → (Scan → Lexed) → Lexed
 unfolding close_word space word_byte add_line line_start ends
 look_as LineFeedByte byte s on = add_line (close_word s) (on (line_start (s.number + 1)))
@@ -135,7 +135,7 @@ unfoldable pub look_at : ℕ → Bool → Scan → (Scan → Lexed) → Lexed
 unfolding class_of look_as
 look_at byte feed_next s on = look_as (class_of byte feed_next s.column) byte s on
 
--- at the end of the text a last line without a line feed is a line if it has a byte
+-- at the end of the text, a last line without a line feed counts as a line if it has a byte
 unfoldable pub next_line : Scan → ℕ
 next_line s = cond (s.column == 1) s.number (s.number + 1)
 

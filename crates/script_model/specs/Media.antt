@@ -1,7 +1,6 @@
--- Media query lists: their text, and which viewports they match (Media Queries 4, 2 and 3; the grammar is a part of the
--- standard's, without nesting, `<` and `>`). A reader looks at the next byte alone and fails at the first byte with which
--- the text so far begins no list. Its fault is the number of bytes that are left there; 0 is the end of a text that
--- begins a longer list.
+-- Media query lists: their text, and which viewports they match (Media Queries 4, 2 and 3; the grammar is a subset of the standard's,
+-- without nesting, `<` and `>`). A reader looks only at the next byte, and fails at the first byte with which the text so far can't be
+-- the beginning of a list. Its fault is the number of bytes left at that point; 0 means that the text ended within a list.
 use Rattle.std.specs.Prelude.{ℕ, zero, suc, ◌+◌, ◌-◌, ◌*◌, ◌/◌, Bool, true, false, cond, not, ◌&&◌, ◌||◌, ◌==◌, nat_le, List, [], ◌∷◌, length, Result, Ok, Err, codes}
 use Rattle.std.specs.List.{list_all, list_any}
 use Rattle.word_model.specs.Names.{is_digit}
@@ -25,18 +24,18 @@ word_at (w ∷ ws) text = byte_at w text >>= λ rest. word_at ws rest
 abbrev pub is_blank : ℕ → Bool
 is_blank b = b == 32 || b == 9
 
--- what stands after zero or more spaces or tabs
+-- the text after zero or more spaces or tabs
 unfoldable pub skip : List ℕ → List ℕ
 skip [] = []
 skip (b ∷ bs) = cond (is_blank b) (skip bs) (b ∷ bs)
 
--- what stands after one or more
+-- the text after one or more of them
 unfoldable pub gap_at : List ℕ → Result (List ℕ) ℕ
 unfolding skip
 gap_at [] = Err 0
 gap_at (b ∷ bs) = cond (is_blank b) (Ok (skip bs)) (Err (length (b ∷ bs)))
 
--- this word, which stands for a value
+-- reads this word, which stands for a value
 unfoldable pub says : {A : Type 0} → List ℕ → A → List ℕ → Read A
 unfolding word_at
 says word value text = word_at word text >>= λ rest. Ok (value, rest)
@@ -47,8 +46,8 @@ medium_at text =
     cond (begins_with 97 text) (says (codes "all") AllMedia text)
     (cond (begins_with 115 text) (says (codes "screen") ScreenMedia text) (says (codes "print") PrintMedia text))
 
--- Lengths. A digit with which the number would be above the largest one stands in no length, so digits are read under
--- a cap.
+-- Lengths. A digit that would make the number greater than the largest one can't be part of a length, so digits are read up to a
+-- maximum.
 
 abbrev pub with_digit : ℕ → ℕ → ℕ
 with_digit value b = value * 10 + (b - 48)
@@ -56,13 +55,13 @@ with_digit value b = value * 10 + (b - 48)
 abbrev pub is_digit_under : ℕ → ℕ → ℕ → Bool
 is_digit_under most value b = is_digit b && nat_le (with_digit value b) most
 
--- the number that a number gives with one more digit
+-- reads one more digit of a number
 unfoldable pub digit_at : ℕ → ℕ → List ℕ → Read ℕ
 digit_at most value [] = Err 0
 digit_at most value (b ∷ bs) =
     cond (is_digit_under most value b) (Ok (with_digit value b, bs)) (Err (length (b ∷ bs)))
 
--- the same with so many more digits at the most
+-- reads up to so many more digits of a number
 unfoldable pub digits_at : ℕ → ℕ → ℕ → List ℕ → ℕ × List ℕ
 digits_at zero most value text = (value, text)
 digits_at (suc places) most value [] = (value, [])
@@ -74,13 +73,13 @@ unfoldable pub whole_at : List ℕ → Read ℕ
 unfolding digit_at digits_at
 whole_at text = digit_at 1000000 0 text >>= λ first. Ok (digits_at 6 1000000 first.0 first.1)
 
--- the hundredths that tenths are, with the digit that may follow
+-- tenths as hundredths, with the digit that may follow
 unfoldable pub hundredths_at : ℕ → List ℕ → ℕ × List ℕ
 hundredths_at tenths [] = (tenths * 10, [])
 hundredths_at tenths (b ∷ bs) =
     cond (is_digit_under 100000000 tenths b) (with_digit tenths b, bs) (tenths * 10, b ∷ bs)
 
--- hundredths: the whole part, and optionally a point and 1 or 2 digits
+-- a number in hundredths: the whole part, optionally followed by a point and 1 or 2 digits
 unfoldable pub fraction_at : ℕ → List ℕ → Read ℕ
 unfolding begins_with byte_at digit_at hundredths_at
 fraction_at whole text =
@@ -88,7 +87,7 @@ fraction_at whole text =
     (byte_at 46 text >>= λ rest. digit_at 10000000 whole rest >>= λ tenths. Ok (hundredths_at tenths.0 tenths.1))
     (Ok (whole * 100, text))
 
--- in units, cut to units
+-- a length in units, rounded down
 unfoldable pub length_at : List ℕ → Read ℕ
 unfolding whole_at fraction_at word_at
 length_at text =
@@ -105,7 +104,7 @@ dimension_at compared text =
     cond (begins_with 119 text) (says (codes "width") (WidthFeature compared) text)
     (says (codes "height") (HeightFeature compared) text)
 
--- a `:` with the space around it
+-- a `:` with the spaces and tabs around it
 unfoldable pub colon_at : List ℕ → Result (List ℕ) ℕ
 unfolding byte_at skip
 colon_at text = byte_at 58 (skip text) >>= λ rest. Ok (skip rest)
@@ -152,13 +151,13 @@ unfoldable pub query_ends : List ℕ → Bool
 unfolding is_empty begins_with skip
 query_ends text = is_empty text || begins_with 44 (skip text)
 
--- `and` or `or` with the gaps around it, and a feature
+-- `and` or `or` with spaces or tabs on both sides, and a feature
 unfoldable pub joined_at : List ℕ → List ℕ → Read Feature
 unfolding gap_at word_at feature_at
 joined_at joint text =
     gap_at text >>= λ next. word_at joint next >>= λ rest. gap_at rest >>= λ inside. feature_at inside
 
--- features that are so joined, up to the end of the query; the first number is more than there can be of them
+-- features joined in this way, up to the end of the query; the first number is greater than their number can be
 unfoldable pub more_at : ℕ → List ℕ → List ℕ → Read (List Feature)
 unfolding query_ends joined_at
 more_at zero joint text = Ok ([], text)
@@ -187,7 +186,7 @@ any_at first text =
     joined_at (codes "or") text >>= λ second.
     others_at (codes "or") second.1 >>= λ others. Ok (AnyFeatures first second.0 others.0, others.1)
 
--- the byte after the gap tells whether features are joined by `or`
+-- the next byte after the spaces decides whether the features are joined by `or`
 unfoldable pub features_from : Feature → List ℕ → Read MediaQuery
 unfolding begins_with skip any_at all_at
 features_from first text = cond (begins_with 111 (skip text)) (any_at first text) (all_at first text)
@@ -217,7 +216,7 @@ query_at text =
     (cond (begins_with 111 text) (only_at text)
     (cond (begins_with 40 text) (condition_at text) (typed_at NoPrefix text)))
 
--- the queries behind commas; the number is more than there can be of them
+-- the queries after commas; the first number is greater than their number can be
 unfoldable pub more_queries_at : ℕ → List ℕ → Result (List MediaQuery) ℕ
 unfolding is_empty byte_at skip query_at
 more_queries_at zero text = Ok []
@@ -231,8 +230,8 @@ unfolding query_at more_queries_at
 queries_at text =
     query_at text >>= λ first. more_queries_at (suc (length text)) first.1 >>= λ others. Ok (first.0 ∷ others)
 
--- the list that a text is, or the column of the first byte with which the text so far begins no list, one past its end
--- where the whole text begins a longer one
+-- the media query list that a text is, or the column of the first byte with which the text so far can't be the beginning of a list; one
+-- past its end if the text ended within a list
 unfoldable pub query_list : List ℕ → Result (List MediaQuery) ℕ
 unfolding queries_at
 query_list text = with_fault (λ left. length text + 1 - left) (queries_at text)
@@ -244,7 +243,7 @@ compares Exactly have wanted = have == wanted
 compares AtLeast have wanted = nat_le wanted have
 compares AtMost have wanted = nat_le have wanted
 
--- a viewport is portrait exactly if its height is at least its width
+-- a viewport is portrait if and only if its height is at least its width
 abbrev pub feature_matches : ℕ → ℕ → Feature → Bool
 feature_matches width height (WidthFeature compared units) = compares compared width units
 feature_matches width height (HeightFeature compared units) = compares compared height units
@@ -256,7 +255,7 @@ medium_matches AllMedia = true
 medium_matches ScreenMedia = true
 medium_matches PrintMedia = false
 
--- `not` turns a query round, `only` has no effect
+-- `not` negates a query, `only` has no effect
 abbrev pub turned : Prefix → Bool → Bool
 turned NoPrefix holds = holds
 turned NotPrefix holds = not holds

@@ -1,5 +1,5 @@
--- The properties of a style with their values (CSS 2.2, 8 to 11; CSS Box Sizing 3, 3.3; CSS Positioned Layout 3). Which values a property has here is
--- this project's own choice.
+-- The properties of a style with their values (CSS 2.2, 8 to 11; CSS Box Sizing 3, 3.3; CSS Positioned Layout 3). Which values a
+-- property has here is this project's own choice.
 use Rattle.std.specs.Prelude.{ℕ, Bool, true, false, cond, List, [], ◌∷◌, ◌++◌, Option, Some, None, option_map, bytes_eq, codes}
 use Rattle.word_model.specs.Numbers.{length_of, percent_of, signed_of, signed_percent_of}
 use Rattle.px_units.specs.Lengths.{LengthValue, Automatic, Pixels, Percentage, InsetValue, AutomaticInset, InsetPixels, InsetPercentage}
@@ -8,7 +8,7 @@ use Rattle.text_io.specs.declared.kinds.Version.{Version}
 use Rattle.text_io.specs.declared.kinds.Version.TheVariants.{First, Second}
 use Rattle.script_model.specs.Keywords.{Keyword, keyword, lookup}
 
--- a value of the first reader, or of the second where the first has none
+-- the value of the first reader, or that of the second if the first has none
 unfoldable pub either_of : {A : Type 0} → Option A → Option A → Option A
 either_of None second = second
 either_of (Some value) second = Some value
@@ -58,15 +58,15 @@ positions =
     ∷ keyword (codes "fixed") FixedPosition
     ∷ []
 
--- what reads the value of a property
+-- a reader of a property's values
 abbrev pub ValueReader : Type 0
 ValueReader = List ℕ → Option Declaration
 
--- a declaration that holds what a reader reads
+-- a reader whose declaration has the value that another reader reads
 abbrev pub sets : {A : Type 0} → (A → Declaration) → (List ℕ → Option A) → ValueReader
 sets declare of text = option_map declare (of text)
 
--- each property of the first version with the values that it has
+-- the properties of both versions, with their values
 abbrev pub properties : List (Keyword ValueReader)
 properties =
     keyword (codes "display") (sets SetDisplay (lookup displays))
@@ -95,7 +95,7 @@ properties =
     ∷ keyword (codes "overflow") (sets SetOverflow (lookup overflows))
     ∷ []
 
--- those that scripts of the second version have besides
+-- those that only scripts of version 2 have
 abbrev pub positioned_properties : List (Keyword ValueReader)
 positioned_properties =
     keyword (codes "position") (sets SetPosition (lookup positions))
@@ -109,7 +109,7 @@ abbrev pub properties_in : Version → List (Keyword ValueReader)
 properties_in First = properties
 properties_in Second = positioned_properties ++ properties
 
--- what reads the values of the property with this name in a version
+-- the reader for the values of the property with this name, if a version has it
 unfoldable pub property_of : Version → List ℕ → Option ValueReader
 unfolding lookup auto_or_size_of none_or_size_of size_of length_of inset_of
 property_of version name = lookup (properties_in version) name

@@ -1,6 +1,5 @@
--- The reading of a text: the script that it is, or the first fault or limit in the order of its lines. In one line the
--- bytes come before the words, and the words before the limits of handlers and nested blocks. All of this is this
--- project's own choice.
+-- The reading of a text: the script that it is, or the first fault or limit in the order of its lines. Within a line the bytes are
+-- checked first, then the words, then the limits on handlers and nested blocks. All of this is this project's own choice.
 use Rattle.std.specs.Prelude.{ℕ, ◌+◌, Bool, true, false, cond, ◌==◌, nat_lt, List, [], ◌∷◌, length, take, reverse, count_by, Result, Ok, Err}
 use Rattle.text_io.specs.declared.kinds.LimitKind.{LimitKind}
 use Rattle.text_io.specs.declared.kinds.LimitKind.TheVariants as limits
@@ -22,19 +21,20 @@ abbrev pub refusal_line : Refusal → TraceLine
 refusal_line (SyntaxAt line column) = SyntaxLine line column
 refusal_line (LimitAt limit line) = LimitLine limit line (common_limit limit)
 
--- what a line opened that an `end` will close
+-- what a line opened and an `end` will close
 pub data Opening : Type 0 where
   EachBlock : Opening
   WhenBlock : (condition : Condition) → Opening
   HandlerBlock : (name : List ℕ) → Opening
 
--- something open: its line, and the commands that it has so far, the last one first
+-- an open block or handler: its line, and the commands in it so far, in reverse order
 pub record Frame : Type 0 where
   pub line : ℕ
   pub opening : Opening
   pub commands : List Command
 
--- what was read so far: the version; what is open, innermost first; the items, last first; and the names of the handlers
+-- what was read so far: the version; the open blocks and handlers, innermost first; the items, in reverse order; and the names of the
+-- handlers
 pub record State : Type 0 where
   pub version : Version
   pub frames : List Frame
@@ -53,7 +53,7 @@ unfoldable pub put : Command → State → State
 unfolding put_in
 put command s = put_in s.frames command s
 
--- a block of commands, which stand last first, before those of a block
+-- these commands, which are in reverse order, put before those of a block
 unfoldable pub block_before : List Command → Block → Block
 block_before [] others = others
 block_before (c ∷ cs) others = block_before cs (Then c others)
@@ -67,7 +67,7 @@ unfoldable pub opened : ℕ → Opening → State → State
 opened line opening s =
     record s { frames = record { line = line; opening = opening; commands = [] } ∷ s.frames }
 
--- a block, which may stand in 15 others at the most, the handler not counted
+-- opens a block, which may be nested in at most 15 others, not counting the handler
 unfoldable pub open_block : ℕ → Opening → State → Result State Refusal
 unfolding opened
 open_block line opening s =
@@ -81,7 +81,7 @@ open_handler line name s =
     (Ok (opened line (HandlerBlock name) (record s { names = name ∷ s.names })))
     (Err (LimitAt limits.Handlers line))
 
--- what an opening has become once its block is closed; a handler is an item
+-- what an opening becomes once its block is closed: a command, or for a handler an item
 unfoldable pub closed : Opening → ℕ → Block → ℕ → State → State
 unfolding put
 closed EachBlock line block end_line s = put (Each line block end_line) s
@@ -89,7 +89,7 @@ closed (WhenBlock condition) line block end_line s = put (When line condition bl
 closed (HandlerBlock name) line block end_line s =
     record s { items = Handler line name block end_line ∷ s.items }
 
--- the innermost block or handler ends; a line `end` is read only where there is one
+-- closes the innermost block or handler; an `end` is only read inside one
 unfoldable pub close_in : List Frame → ℕ → State → State
 unfolding closed block_before
 close_in [] end_line s = s
@@ -120,7 +120,7 @@ unfolding step
 steps s [] = Ok s
 steps s (l ∷ ls) = step s l >>= λ next. steps next ls
 
--- the refusal of a text that is no script up to its ending
+-- the refusal of a text that has no earlier fault but isn't a whole script at its ending
 abbrev pub refused_at : Ending → Refusal
 refused_at (Whole next_line) = SyntaxAt next_line 1
 refused_at (BadByte line column) = SyntaxAt line column
@@ -143,7 +143,7 @@ unfoldable pub read_lexed : Lexed → Result Script Refusal
 unfolding read_lines
 read_lexed text = read_lines text.lines text.ending
 
--- the line of the first byte that a text has too many
+-- the line of the first byte beyond the maximum length of a text
 unfoldable pub last_line : ℕ → List ℕ → ℕ
 last_line most text = 1 + count_by (λ byte. byte == 10) (take most text)
 

@@ -1,4 +1,4 @@
--- Words at other columns, and lines with other numbers.
+-- Words moved to other columns, and lines with other numbers.
 use Rattle.std.specs.Prelude.{ℕ, ◌+◌, map, Ok, Err}
 use Rattle.script_model.specs.Syntax.{Command, Simple, Each, When, Block, NoMore, Then, Item, Outside, Tick, Handler}
 use Rattle.script_model.specs.Lexing.{Word, Line, Ending, Whole, BadByte, LongLine, Lexed}
@@ -15,14 +15,14 @@ ending_renumbered lines (Whole next_line) = Whole (next_line + lines)
 ending_renumbered lines (BadByte line column) = BadByte (line + lines) column
 ending_renumbered lines (LongLine line) = LongLine (line + lines)
 
--- all lines that many numbers on
+-- all lines, with their numbers increased by `lines`
 abbrev pub all_renumbered : ℕ → Lexed → Lexed
 all_renumbered lines lexed = record {
   lines = map (renumbered lines) lexed.lines;
   ending = ending_renumbered lines lexed.ending;
 }
 
--- commands, items and refusals that many lines on
+-- commands, items and refusals, with their line numbers increased by `lines`
 unfoldable mutual
   pub command_later : ℕ → Command → Command
   command_later lines (Simple line action) = Simple (line + lines) action

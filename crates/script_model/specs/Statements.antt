@@ -1,5 +1,6 @@
--- What one line of a script says. That depends on where it stands: `handler` and `tick` stand outside handlers and
--- blocks alone, `end` inside alone, no two handlers have one name, and each version of the language has its commands. All of this is this project's own choice.
+-- What one line of a script says. That depends on where it is: `handler` and `tick` are allowed only outside handlers and blocks, `end`
+-- only inside, no two handlers may have the same name, and each version of the language has its own commands. All of this is this
+-- project's own choice.
 use Rattle.std.specs.Prelude.{ℕ, Bool, true, false, cond, ◌&&◌, not, List, [], ◌∷◌, Option, Some, None, option_and_then, Result, Ok, bytes_eq, codes}
 use Rattle.std.specs.List.{list_any}
 use Rattle.word_model.specs.Names.{is_name}
@@ -20,13 +21,13 @@ pub data Statement : Type 0 where
   OpensHandler : (name : List ℕ) → Statement
   Ends : Statement
 
--- where a line stands: in a script of which version, outside handlers and blocks or not, and behind handlers of these names
+-- the context of a line: the version of the script, whether the line is outside handlers and blocks, and the names of the handlers so far
 pub record Standing : Type 0 where
   pub version : Version
   pub outside : Bool
   pub names : List (List ℕ)
 
--- the head, if a line that stands outside, or inside, may have it
+-- the head, if it is allowed in a line that is outside (`true`) or inside (`false`)
 unfoldable pub permitted : Bool → Head → Option Head
 permitted true EndHead = None
 permitted true head = Some head
@@ -38,11 +39,11 @@ unfoldable pub head_of : Version → Bool → List ℕ → Option Head
 unfolding permitted lookup
 head_of version outside text = option_and_then (permitted outside) (lookup (heads_in version) text)
 
--- a name that no handler has yet
+-- a name, if no handler has it yet
 unfoldable pub fresh_name_of : List (List ℕ) → List ℕ → Option (List ℕ)
 fresh_name_of names text = cond (is_name text && not (list_any (bytes_eq text) names)) (Some text) None
 
--- whether `not` stands next, and the words behind it
+-- whether `not` comes next, and the row after it
 unfoldable pub negation_in : List Word → Row → Bool × Row
 negation_in [] row = (false, row)
 negation_in (w ∷ ws) row = cond (bytes_eq w.text (codes "not")) (true, record row { left = ws }) (false, row)
@@ -75,13 +76,13 @@ operands_of names WhenHead row = condition_as row >>= λ condition. Ok (OpensWhe
 operands_of names HandlerHead row = handler_as names row
 operands_of names EndHead row = made [] Ends row
 
--- what a line says, or the column of its fault
+-- what a line says, or the column of its first fault
 unfoldable pub statement_of : Standing → Row → Result Statement ℕ
 unfolding word_as head_of operands_of
 statement_of standing row =
     word_as (head_of standing.version standing.outside) row >>= λ head. operands_of standing.names head.0 head.1
 
--- a script's first line, which names its version
+-- the first line of a script, which gives its version
 unfoldable pub version_as : Row → Result Version ℕ
 unfolding word_as just lookup none_left
 version_as row =

@@ -1,5 +1,4 @@
--- The summary of a trace: a line for each kind of trace line, with the number of them. This form is this project's own
--- choice.
+-- The summary of a trace: a line for each kind of trace line, with the number of such lines. This form is this project's own choice.
 use Rattle.std.specs.Prelude.{ℕ, List, [], ◌∷◌, ◌++◌, flat_map, count_by, bytes_eq, codes}
 use Rattle.word_model.specs.Numbers.{decimal}
 use Rattle.script_model.specs.TraceLines.{TraceLine}

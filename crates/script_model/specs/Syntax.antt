@@ -1,5 +1,5 @@
--- The syntax of scripts as values. Names are lists of bytes, lengths are in units of 1/64 pixel. Operands stand in
--- the order of a command's line.
+-- The syntax of scripts as values. Names are lists of bytes, lengths are in units of 1/64 pixel. Operands are in the order in which
+-- they are written in a command's line.
 use Rattle.std.specs.Prelude.{ℕ, ℤ, Bool, List, Option}
 use Rattle.px_units.specs.declared.BoxKind.{BoxKind}
 use Rattle.layout_model.specs.Styles.{Declaration}
@@ -7,7 +7,7 @@ use Rattle.text_io.specs.declared.kinds.EventKind.{EventKind}
 use Rattle.text_io.specs.declared.kinds.Version.{Version}
 use Rattle.script_model.specs.Queries.{MediaQuery}
 
--- a node by its name, or `$target`, the target of the present entry
+-- a node by its name, or `$target`, the target of the current entry
 pub data Operand : Type 0 where
   Named : (name : List ℕ) → Operand
   Target : Operand
@@ -21,8 +21,8 @@ pub data Dimension : Type 0 where
   WidthDimension : Dimension
   HeightDimension : Dimension
 
--- the operands of the command that makes an intersection observer; a margin is its words joined by one space, the scroll margin is
--- none where it was left out, and thresholds are in ten-thousandths
+-- the operands of the command that creates an intersection observer. A margin is its words joined by single spaces, the scroll margin
+-- is None if it was left out, and thresholds are in ten-thousandths
 pub record ObserverMaking : Type 0 where
   pub name : List ℕ
   pub document : List ℕ
@@ -67,7 +67,7 @@ pub data Action : Type 0 where
   Say : (word : List ℕ) → Action
   Read : (target : Operand) → Action
 
--- what a `when` asks
+-- the test of a `when`
 pub data Test : Type 0 where
   Wider : (node : Operand) (units : ℕ) → Test
   Taller : (node : Operand) (units : ℕ) → Test
@@ -79,7 +79,7 @@ pub record Condition : Type 0 where
   pub negated : Bool
   pub asks : Test
 
--- commands and blocks of commands; a number is the line of the command, the last one that of the block's `end`
+-- commands and blocks of commands; `line` is the line of the command, and `end_line` that of the block's `end`
 mutual
   pub data Command : Type 0 where
     Simple : (line : ℕ) (action : Action) → Command
@@ -90,13 +90,13 @@ mutual
     NoMore : Block
     Then : (command : Command) (others : Block) → Block
 
--- what stands outside handlers and blocks
+-- an item of a script, outside handlers and blocks
 pub data Item : Type 0 where
   Outside : (command : Command) → Item
   Tick : (line time : ℕ) → Item
   Handler : (line : ℕ) (name : List ℕ) (block : Block) (end_line : ℕ) → Item
 
--- a script: its version, and what stands behind its first line
+-- a script: its version, and the items after its first line
 pub record Script : Type 0 where
   pub version : Version
   pub items : List Item

@@ -1,5 +1,5 @@
--- The lines of a trace as values. Lengths are in units of 1/64 pixel; a rectangle is by its edges. A size in device pixels is told in
--- traces of the second version alone.
+-- The lines of a trace as values. Lengths are in units of 1/64 pixel; a rectangle is given by its edges. A size in device pixels is
+-- reported only in traces of version 2.
 use Rattle.std.specs.Prelude.{ℕ, Bool, List, Option}
 use Rattle.px_units.specs.declared.Rect.{Rect}
 use Rattle.px_units.specs.declared.Point.{Point}
@@ -13,7 +13,7 @@ pub data FiredEvent : Type 0 where
   FiredChange : (query : List ℕ) (matches : Bool) → FiredEvent
   FiredError : (document : List ℕ) → FiredEvent
 
--- a target's area seen, and the whole of it, in square units
+-- `part` and `whole` are the intersecting area of the target and its whole area, in square units
 pub record Intersection : Type 0 where
   pub observer : List ℕ
   pub target : List ℕ

@@ -10,7 +10,7 @@ use Rattle.px_units.specs.declared.Size.{Size}
 use Rattle.text_io.specs.Kinds.{limit_word, throw_word}
 use Rattle.script_model.specs.TraceLines.{FiredEvent, FiredResize, FiredScroll, FiredChange, FiredError, Intersection, TraceLine, TickLine, TimerLine, FrameLine, TaskLine, EventLine, ResizeLine, RoundLine, IntersectLine, TakeLine, SayLine, ReadLine, ThrowLine, LimitLine, SyntaxLine}
 
--- the window of a document
+-- how the window of a document is written: `@` and the document's name
 abbrev pub window_text : List ℕ → List ℕ
 window_text document = 64 ∷ document
 
@@ -37,7 +37,7 @@ unfoldable pub whole_text : ℤ → List ℕ
 unfolding sign_text decimal
 whole_text number = sign_text number ++ decimal (unsigned_abs number)
 
--- a size in device pixels, if it is told
+-- a size in device pixels, if it is reported
 unfoldable pub device_fields : Option Size → List (List ℕ)
 unfolding whole_text
 device_fields None = []
@@ -47,7 +47,7 @@ unfoldable pub point_fields : Point → List (List ℕ)
 unfolding pixel_text
 point_fields point = pixel_text point.left ∷ pixel_text point.top ∷ []
 
--- a target's area seen and the whole of it, not reduced
+-- the intersecting area of a target and its whole area, as a fraction that isn't reduced
 unfoldable pub ratio_text : ℕ → ℕ → List ℕ
 unfolding decimal
 ratio_text part whole = decimal part ++ (47 ∷ decimal whole)
@@ -87,7 +87,7 @@ kind_text (ThrowLine line exception) = codes "throw"
 kind_text (LimitLine limit line number) = codes "limit"
 kind_text (SyntaxLine line column) = codes "syntax"
 
--- the fields behind it
+-- the fields after it
 unfoldable pub fields_of : TraceLine → List (List ℕ)
 unfolding decimal event_fields rect_fields size_fields device_fields point_fields intersection_fields
 fields_of (TickLine time) = decimal time ∷ []

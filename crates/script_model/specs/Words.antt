@@ -25,11 +25,11 @@ unfolding name_of node_of
 aim_of [] = None
 aim_of (b ∷ bs) = cond (b == 64) (option_map WindowAim (name_of bs)) (option_map PlainAim (node_of (b ∷ bs)))
 
--- what a reader reads, or `-` for none
+-- what a reader reads, or `-` for None
 unfoldable pub or_dash : {A : Type 0} → (List ℕ → Option A) → List ℕ → Option (Option A)
 or_dash of text = cond (bytes_eq text (codes "-")) (Some None) (option_map Some (of text))
 
--- this word alone
+-- exactly this word
 unfoldable pub just : List ℕ → List ℕ → Option (Unit {0})
 just word text = cond (bytes_eq text word) (Some tt) None
 
@@ -44,7 +44,7 @@ events =
 abbrev pub versions : List (Keyword Version)
 versions = keyword (version_word First) First ∷ keyword (version_word Second) Second ∷ []
 
--- the boxes that scripts of a version observe
+-- the boxes that scripts of a version can observe
 abbrev pub boxes : Version → List (Keyword BoxKind)
 boxes First = keyword (codes "content") Content ∷ keyword (codes "border") Border ∷ []
 boxes Second = keyword (codes "content") Content ∷ keyword (codes "border") Border ∷ keyword (codes "device") Device ∷ []

@@ -1,6 +1,6 @@
--- The ranges of a command's numbers: lengths without a sign are from 0 to 1,000,000 CSS pixels, those with one up to as
--- many in both directions, percentages are from 0 to 10,000 percent, in hundredths, and times are at most
--- 1,000,000,000,000 milliseconds. These bounds are this project's own choice.
+-- The ranges of a command's numbers: lengths without a sign are from 0 to 1,000,000 CSS pixels, those with one from -1,000,000 to
+-- 1,000,000, percentages are from 0 to 10,000 percent, in hundredths, and times are at most 1,000,000,000,000 milliseconds. These bounds
+-- are this project's own choice.
 use Rattle.std.specs.Prelude.{ℕ, ℤ, pos, negsuc, ◌≤◌, ◌≤ℤ◌}
 use Rattle.style_values.specs.Ranges as style
 use Rattle.px_units.specs.declared.Size.{Size}
@@ -50,7 +50,7 @@ ActionAllowed (action.ScrollBy node by) = IsOffset by
 ActionAllowed (action.Timer document key delay handler) = IsTime delay
 ActionAllowed other = Unit {0}
 
--- the commands of a block have this by their type
+-- for the commands of a block this is part of their type
 abbrev pub WhatAllowed : What → Type 0
 WhatAllowed (what.Act action) = ActionAllowed action
 WhatAllowed (what.Each body) = Unit {0}

@@ -1,4 +1,4 @@
--- Blocks and handlers that are open, as the definition has them.
+-- Open blocks and handlers, in the terms of the definition.
 use Rattle.std.specs.Prelude.{map, reverse}
 use Rattle.std.specs.List.{All}
 use Rattle.script_model.specs.Reading as model

@@ -1,4 +1,4 @@
--- What first words begin, as the definition's tables have it.
+-- What first words introduce, in the terms of the definition's tables.
 use Rattle.std.specs.Prelude.{List, [], ◌∷◌}
 use Rattle.text_io.specs.declared.kinds.Version.{Version}
 use Rattle.script_model.specs.Syntax as syntax
@@ -12,7 +12,7 @@ use Rattle.script_syntax.specs.declared.heads.Head.TheVariants as head
 use Rattle.script_syntax.specs.declared.heads.Shape.{Shape}
 use Rattle.script_syntax.specs.declared.heads.Shape.TheVariants as shape
 
--- the parts behind a command's first word in each version, and what they make
+-- the parts after a command's first word in each version, and what they make
 abbrev pub forms_of : Version → Verb → List Form
 forms_of version verb.Viewport = LengthForm ∷ LengthForm ∷ []
 forms_of version verb.Ratio = PercentForm ∷ []

@@ -1,4 +1,4 @@
--- The handlers of a script by their places among its items, and their numbers by name.
+-- The handlers of a script by their indices among its items, and their numbers by name.
 use Rattle.std.specs.Prelude.{◌≡◌, ℕ, ◌<◌, ◌^◌, Bool, cond, List, [], ◌∷◌, ◌++◌, length, map, filter, take, slice_get, Option, Some, None, bytes_eq}
 use Rattle.script_model.specs.Syntax.{Item}
 use Rattle.script_model.specs.Scripts.{handlers_in, number_in, handler_number}
@@ -15,7 +15,7 @@ pub record Indexed (items : List Item) (places : List ℕ) (number_of : List ℕ
   pub placed : map (λ place. slice_get items place) places ≡ map Some (filter is_handler items)
   pub named : (name : List ℕ) → number_of name ≡ handler_number items name
 
--- the number of a name once a handler of the same name, or of another, has this number; the first of a name counts
+-- the number of a name after a handler, with the same name or another, was given this number; of handlers with one name the first counts
 abbrev pub noted : Bool → ℕ → Option ℕ → Option ℕ
 noted same number (Some before) = Some before
 noted same number None = cond same (Some number) None

@@ -1,4 +1,4 @@
--- What readers of a line's words answer against the definition; want of memory is free.
+-- The results of the readers of a line's words, compared with the definition, unless memory runs out.
 use Rattle.std.specs.Prelude.{◌≡◌, ℕ, ◌-◌, ◌<◌, ◌≤◌, Bool, true, false, cond, List, [], ◌∷◌, length, drop, map, Option, Some, None, Result, Ok, Err, bytes_eq}
 use Rattle.std.specs.List.{All}
 use Rattle.std.specs.Borrow.{Bor}
@@ -12,12 +12,12 @@ use Rattle.script_syntax.specs.Words.{word_of}
 use Rattle.script_syntax.specs.declared.faults.LineFault.{LineFault}
 use Rattle.script_syntax.specs.declared.faults.LineFault.TheVariants.{At, Memory}
 
--- words that are left, as places in a text, of a line that starts here
+-- the words that are left of a line that begins at `start`, given as places in a text
 abbrev pub row_at : List ℕ → ℕ → List Span → ℕ → List ℕ → Row
 row_at bytes start spans after line =
     record { left = map (word_seen bytes start) spans; after = after; bytes = line }
 
--- places that are numbers of a text's bytes, all of them below 2^32
+-- the words are within the text, which is short enough for all its places to be below 2^32
 pub record RowFits (bytes : List ℕ) (start : ℕ) (spans : List Span) (line : List ℕ) : Type 0 where
   pub short : length bytes ≤ 16777216
   pub line_short : length line ≤ 16777216
@@ -28,7 +28,7 @@ abbrev pub Popped : Option Word → Row → Row → Type 0
 Popped None old new = (old.left ≡ []) × (new ≡ old)
 Popped (Some word) old new = (old.left ≡ word_of word ∷ new.left) × (new ≡ record old { left = new.left })
 
--- the next word is taken, or there is none, or it is one to stop at
+-- the next word is taken, unless there is none or it is one to stop at
 abbrev pub NextBefore : (List ℕ → Bool) → Option (Bor (List ℕ)) → Row → Row → Type 0
 NextBefore stop None old new =
     (words_before stop old.left ≡ []) × (words_from stop old.left ≡ old.left) × (new ≡ old)
@@ -38,7 +38,7 @@ NextBefore stop (Some text) old new =
     × (new ≡ record old { left = new.left })
     × (length new.left < length old.left)
 
--- whether this word stands next, and the words behind it
+-- whether this word comes next, and the row after it
 abbrev pub taken_in : List ℕ → List model.Word → Row → Bool × Row
 taken_in word [] row = (false, row)
 taken_in word (w ∷ ws) row = cond (bytes_eq w.text word) (true, record row { left = ws }) (false, row)
@@ -51,7 +51,7 @@ rest_in (w ∷ ws) row = Ok (w.column, drop (w.column - 1) row.bytes, record row
 abbrev pub rest_of : Row → Result (ℕ × List ℕ × Row) ℕ
 rest_of row = rest_in row.left row
 
--- a value as it is seen, or the column of the fault
+-- a value stands for the definition's value, and a fault has its column, unless memory runs out
 abbrev pub Gives : {A B : Type 0} → (A → B) → Result A LineFault → Result B ℕ → Type 0
 Gives seen (Ok value) answer = answer ≡ Ok (seen value)
 Gives seen (Err (At column)) answer = answer ≡ Err column

@@ -1,4 +1,4 @@
--- What a parser answers against the definition's reading; want of memory is free.
+-- The result of a parser, compared with the definition's reading, unless memory runs out.
 use Rattle.std.specs.Prelude.{◌≡◌, ◌+◌, ◌<◌, ◌^◌, None, Result, Ok, Err}
 use Rattle.text_io.specs.Limits.{IsCommon}
 use Rattle.script_lexer.specs.Texts.{TextParts}
@@ -7,7 +7,7 @@ use Rattle.script_model.specs.Reading.{Reading, Refusal, SyntaxAt, LimitAt}
 use Rattle.script_syntax.specs.declared.faults.ParseFault.{ParseFault}
 use Rattle.script_syntax.specs.declared.faults.ParseFault.TheVariants.{Syntax, ScriptLimit as MeetsLimit, Memory}
 
--- a value is what was read, as it is seen, and a fault or limit is the refusal; want of memory is free
+-- a value stands for what was read, and a fault or limit is the refusal, unless memory runs out
 abbrev pub Answers : {A B : Type 0} → (A → B) → Result A ParseFault → Result B Refusal → Type 0
 Answers seen (Ok value) reading = reading ≡ Ok (seen value)
 Answers seen (Err (Syntax line column)) reading = reading ≡ Err (SyntaxAt line column)
@@ -30,6 +30,6 @@ IsRefused (Syntax line column) refusal = refusal ≡ SyntaxAt line column
 IsRefused (MeetsLimit kind line) refusal = refusal ≡ LimitAt kind line
 IsRefused Memory refusal = ⊥
 
--- where a text ends whole, the number of the line behind its last one is below 2^32
+-- if a text has no fault, the number of the line after its last one is below 2^32
 abbrev pub EndsSoon : TextParts → Type 0
 EndsSoon text = text.fault ≡ None → text.line_count + 1 < 2 ^ 32

@@ -1,4 +1,4 @@
--- What a script is: one that some text reads as. `script_text` says of the version and the items alone which these are.
+-- What a script is: the reading of some text. `script_text` says which scripts these are, in terms of their version and items only.
 use Rattle.std.specs.Prelude.{◌≡◌, ℕ, List, Ok}
 use Rattle.script_model.specs.Syntax.{Script}
 use Rattle.script_model.specs.Reading.{reading}

@@ -1,5 +1,5 @@
--- What the types of scripts stand for in the definitions. Lengths are seen by what they are without a sign;
--- specs/Allowed.antt says which are never negative.
+-- What the types of scripts stand for in the definitions. Lengths without a sign are given by their absolute values; specs/Allowed.antt
+-- says which lengths are never negative.
 use Rattle.std.specs.Prelude.{ℕ, ◌+◌, Bool, true, false, List, [], ◌∷◌, option_map, unsigned_abs}
 use Rattle.style_values.specs.Seen.{seen_axis, seen_declaration}
 use Rattle.script_model.specs.Syntax as model
@@ -99,7 +99,7 @@ abbrev pub block_of : List Command → model.Block
 block_of [] = model.NoMore
 block_of (command ∷ commands) = model.Then (command_of command) (block_of commands)
 
--- a handler among the items, and by its name
+-- a handler as an item, and as a block with a name
 abbrev pub handler_item : Handler → model.Item
 handler_item handler = model.Handler handler.line handler.name handler.commands handler.end_line
 
@@ -116,7 +116,7 @@ is_handler (model.Outside command) = false
 is_handler (model.Tick line time) = false
 is_handler (model.Handler line name block end_line) = true
 
--- how large a block is, by which a walk through it ends
+-- the sizes of commands and blocks, by which a walk through a block terminates
 unfoldable mutual
   pub command_size : model.Command → ℕ
   command_size (model.Simple line action) = 1

@@ -1,4 +1,4 @@
--- What a line says, as the definition has it, and the ranges of its numbers.
+-- What a line says, in the terms of the definition, and the ranges of its numbers.
 use Rattle.std.specs.Prelude.{◌≡◌, ℕ, List, false, bytes_eq}
 use Rattle.std.specs.List.{list_any}
 use Rattle.script_model.specs.Statements as model

@@ -1,4 +1,4 @@
--- A word as the definition has it.
+-- A word in the terms of the definition.
 use Rattle.script_model.specs.Lexing as model
 use Rattle.script_syntax.specs.declared.words.Word.{Word}
 

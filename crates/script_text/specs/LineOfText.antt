@@ -1,4 +1,4 @@
--- The line of a number in a text; the first line has the number 1.
+-- The line with a number in a text; the first line has the number 1.
 use Rattle.std.specs.Prelude.{ℕ, zero, suc, ◌-◌, ◌==◌, cond, List, [], ◌∷◌}
 
 -- the bytes before the first line feed
@@ -6,7 +6,7 @@ unfoldable pub first_line : List ℕ → List ℕ
 first_line [] = []
 first_line (b ∷ bs) = cond (b == 10) [] (b ∷ first_line bs)
 
--- what stands behind so many line feeds
+-- the text after so many line feeds
 unfoldable pub behind_feeds : ℕ → List ℕ → List ℕ
 behind_feeds zero text = text
 behind_feeds (suc feeds) [] = []

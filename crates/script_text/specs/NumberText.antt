@@ -4,13 +4,13 @@ use Rattle.std.specs.Prelude.{ℕ, zero, suc, ◌/◌, ◌%◌, ℤ, pos, negsuc
 use Rattle.word_model.specs.Numbers.{decimal}
 use Rattle.media_queries.specs.LengthText.{last_digit, length_text}
 
--- a number counted in units of its last place of so many, with all these places before a text
+-- a number with so many places after the point, given in units of the last place, printed with all these places before a text
 unfoldable pub all_places : ℕ → ℕ → List ℕ → List ℕ
 unfolding decimal
 all_places zero number behind = decimal number ++ (46 ∷ behind)
 all_places (suc places) number behind = all_places places (number / 10) (last_digit number ∷ behind)
 
--- the same without zeros at the end, and without the point if no place is left
+-- the same without trailing zeros, and without the point if no place is left
 unfoldable pub places_text : ℕ → ℕ → List ℕ
 unfolding decimal all_places
 places_text zero number = decimal number
@@ -22,7 +22,7 @@ unfoldable pub percent_text : ℕ → List ℕ
 unfolding places_text
 percent_text hundredths = places_text 2 hundredths ++ codes "%"
 
--- a text with `-` before it where the number is negative
+-- a text with `-` before it if the number is negative
 abbrev pub with_minus : ℤ → List ℕ → List ℕ
 with_minus (pos number) text = text
 with_minus (negsuc number) text = 45 ∷ text

@@ -19,7 +19,7 @@ numbered number words = record { number = number; words = words }
 abbrev pub end_line : ℕ → NumberedLine
 end_line number = numbered number (codes "end" ∷ [])
 
--- a command's line, and where it has a block the block's lines and that of its `end`
+-- a command's line, and if it has a block, the lines of the block and that of its `end`
 unfoldable mutual
   unfolding decimal parts_of length_text list_text signed_text number_text size_text inset_text
 

@@ -1,4 +1,4 @@
--- The parts of a line and their words. A list of media queries is printed as one text, with one space for each gap; the
+-- The parts of a line and their words. A list of media queries is printed as one text, with one space wherever a space is required; the
 -- words of a margin are printed as they were read, and a scroll margin that was left out has no words.
 use Rattle.std.specs.Prelude.{ℕ, List, [], ◌∷◌, ◌++◌, map, Option, Some, None, codes}
 use Rattle.word_model.specs.Numbers.{decimal}

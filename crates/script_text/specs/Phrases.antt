@@ -1,5 +1,5 @@
--- The words of commands and tests: each is said by its word in the table of commands and the values of its parts, whose
--- forms are those that the table has at that word.
+-- The words of commands and tests: each is given by its word in the table of commands and the values of its parts, whose forms are those
+-- that the table has for that word.
 use Rattle.std.specs.Prelude.{ℕ, cond, List, [], ◌∷◌, ◌++◌, Option, Some, None, codes}
 use Rattle.text_io.specs.declared.kinds.Version.{Version}
 use Rattle.text_io.specs.declared.kinds.Version.TheVariants.{Second}
@@ -64,7 +64,7 @@ action_head version action = (action_phrase version action).word
 abbrev pub action_parts : Version → Action → List Part
 action_parts version action = parts_behind (action_at version (action_head version action)) (action_phrase version action).values
 
--- an action is printed by the same words in each version
+-- an action is printed with the same words in both versions
 abbrev pub action_words : Action → List (List ℕ)
 action_words action = action_head Second action ∷ all_words (action_parts Second action)
 
@@ -91,7 +91,7 @@ test_head test = (test_phrase test).word
 abbrev pub test_parts : Test → List Part
 test_parts test = parts_behind (test_at (test_head test)) (test_phrase test).values
 
--- `not` stands before a condition that is turned round
+-- `not` comes before a negated condition
 abbrev pub condition_words : Condition → List (List ℕ)
 condition_words condition =
     cond (condition.negated) (codes "not" ∷ []) [] ++ (test_head (condition.asks) ∷ all_words (test_parts (condition.asks)))

@@ -1,5 +1,5 @@
--- The printed text of a script: each line on its own number, with empty lines between, and the words of a line with one
--- space between each two. The form is this project's own choice.
+-- The printed text of a script: each line at its own line number, with empty lines in between, and the words of a line separated by
+-- single spaces. The form is this project's own choice.
 use Rattle.std.specs.Prelude.{ℕ, ◌-◌, nat_lt, cond, List, [], ◌∷◌, ◌++◌, length, replicate, codes}
 use Rattle.std.specs.List.{join_with_byte}
 use Rattle.text_io.specs.declared.kinds.LimitKind.TheVariants as limits
@@ -11,7 +11,7 @@ use Rattle.script_text.specs.NumberedLines.{NumberedLine, items_lines}
 unfoldable pub line_text : List (List ℕ) → List ℕ
 line_text words = join_with_byte 32 words
 
--- lines behind the end of the line of this number: as many line feeds as lead to a line's number stand before it
+-- the lines after the end of the line with this number: before each line there are as many line feeds as lead to its number
 unfoldable pub lines_text : ℕ → List NumberedLine → List ℕ
 unfolding line_text
 lines_text number [] = []
@@ -22,7 +22,7 @@ unfoldable pub script_text : Script → List ℕ
 unfolding lines_text items_lines
 script_text script = codes "script " ++ version_word script.version ++ lines_text 1 (items_lines script.items)
 
--- the last line too ends with a line feed, where the text then isn't longer than a script may be
+-- the last line ends with a line feed too, unless the text would then be longer than a script may be
 unfoldable pub printed : Script → List ℕ
 unfolding script_text
 printed script =

@@ -1,6 +1,6 @@
--- Scripts that are well formed: the version has the commands, names and operands are in the grammar's forms and ranges,
--- blocks and handlers within their limits, handlers have different names, line numbers rise, and the printed lines and text
--- are within their limits. That `tick` and handlers stand outside alone is in the type of items.
+-- Scripts that are well formed: the version has the commands, names and operands have the grammar's forms and ranges, blocks and handlers
+-- are within their limits, handlers have different names, line numbers increase, and the printed lines and text are within their limits.
+-- That `tick` and handlers occur only outside handlers and blocks is part of the type of items.
 use Rattle.std.specs.Prelude.{◌≡◌, ℕ, ◌<◌, ◌≤◌, ℤ, unsigned_abs, max, suc, Bool, true, false, not, ◌&&◌, List, [], ◌∷◌, length, Option, Some, None, is_some, bytes_eq}
 use Rattle.std.specs.List.{list_all, list_any}
 use Rattle.word_model.specs.Names.{is_name}
@@ -73,12 +73,12 @@ IsInset AutomaticInset = Unit {0}
 IsInset (InsetPixels units) = IsLength (unsigned_abs units)
 IsInset (InsetPercentage hundredths) = IsPercentage (unsigned_abs hundredths)
 
--- scripts of the first version have no positioned properties
+-- scripts of version 1 have no positioning properties
 abbrev pub IsOfSecond : Version → Type 0
 IsOfSecond First = ⊥
 IsOfSecond Second = Unit {0}
 
--- each value is of its property's row, and the version has the property
+-- the value is one that the property allows, and the version has the property
 abbrev pub IsDeclaration : Version → Declaration → Type 0
 IsDeclaration version (SetDisplay hidden) = Unit {0}
 IsDeclaration version (SetWidth value) = IsAutoOrSize value
@@ -98,23 +98,23 @@ IsDeclaration version (SetRight value) = IsOfSecond version × IsInset value
 IsDeclaration version (SetBottom value) = IsOfSecond version × IsInset value
 IsDeclaration version (SetLeft value) = IsOfSecond version × IsInset value
 
--- a word of a margin: any word that begins no comment, but those that end a margin
+-- a word of a margin: any word, except those that begin a comment or end a margin
 unfoldable pub is_margin_word : Version → List ℕ → Bool
 unfolding is_empty begins_with
 is_margin_word version word =
     not (is_empty word) && list_all is_word_byte word && not (begins_with 35 word) && not (ends_margin version word)
 
--- such words with one space between each two
+-- such words, separated by single spaces
 abbrev pub IsMargin : Version → List ℕ → Type 0
 IsMargin version margin = list_all (is_margin_word version) (parts_of margin) ≡ true
 
--- scripts of the first version have no scroll margins
+-- scripts of version 1 have no scroll margins
 abbrev pub IsScrollMargin : Version → Option (List ℕ) → Type 0
 IsScrollMargin version None = Unit {0}
 IsScrollMargin First (Some margin) = ⊥
 IsScrollMargin Second (Some margin) = IsMargin Second margin
 
--- nor do they observe device pixels
+-- scripts of version 1 can't observe device pixels
 abbrev pub IsBox : Version → BoxKind → Type 0
 IsBox version Content = Unit {0}
 IsBox version Border = Unit {0}
@@ -140,7 +140,7 @@ abbrev pub AreQueries : List MediaQuery → Type 0
 AreQueries [] = Unit {0}
 AreQueries (q ∷ qs) = IsQuery q × AreQueries qs
 
--- a list has a query
+-- a list has at least one query
 abbrev pub IsQueryList : List MediaQuery → Type 0
 IsQueryList [] = ⊥
 IsQueryList (q ∷ qs) = AreQueries (q ∷ qs)
@@ -169,13 +169,13 @@ abbrev pub AreMeant : List Part → Type 0
 AreMeant [] = Unit {0}
 AreMeant (PartOf form value ∷ parts) = IsMeant form value × AreMeant parts
 
--- a command that may stand in a script of this version: the version has its word, and its operands are in the forms and
--- ranges there
+-- a command that is allowed in a script of this version: the version has its word, and its operands have the forms and ranges of that
+-- version
 pub record IsAction (version : Version) (action : Action) : Type 0 where
   pub known : is_some (entry_at (heads_in version) (action_head version action)) ≡ true
   pub operands : AreMeant (action_parts version action)
 
--- commands, those in blocks included
+-- commands, including those in blocks
 unfoldable mutual
   pub IsCommand : Version → Command → Type 0
   IsCommand version (Simple line action) = IsAction version action
@@ -197,7 +197,7 @@ unfolding IsItem
 AreItems version [] = Unit {0}
 AreItems version (item ∷ items) = IsItem version item × AreItems version items
 
--- how many blocks stand one in the other
+-- how deeply blocks are nested
 unfoldable mutual
   pub command_depth : Command → ℕ
   command_depth (Simple line action) = 0
@@ -208,7 +208,7 @@ unfoldable mutual
   block_depth NoMore = 0
   block_depth (Then command others) = max (command_depth command) (block_depth others)
 
--- a handler is no block
+-- a handler itself doesn't count as a block
 unfoldable pub item_depth : Item → ℕ
 unfolding command_depth block_depth
 item_depth (Outside command) = command_depth command
@@ -220,12 +220,12 @@ unfolding item_depth
 items_depth [] = 0
 items_depth (item ∷ items) = max (item_depth item) (items_depth items)
 
--- no name is one of these or of those before it
+-- no handler has one of these names, or the name of a handler before it
 unfoldable pub AreNew : List (List ℕ) → List NamedBlock → Type 0
 AreNew names [] = Unit {0}
 AreNew names (h ∷ hs) = (list_any (bytes_eq h.name) names ≡ false) × AreNew (h.name ∷ names) hs
 
--- each line stands behind the one of this number and behind those before it
+-- each line number is greater than this one and than those of the lines before it
 unfoldable pub Rise : ℕ → List NumberedLine → Type 0
 Rise number [] = Unit {0}
 Rise number (l ∷ ls) = (number < l.number) × Rise l.number ls

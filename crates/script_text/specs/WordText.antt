@@ -8,12 +8,12 @@ abbrev pub operand_text : Operand → List ℕ
 operand_text (Named name) = name
 operand_text Target = codes "$target"
 
--- `@` stands before the name of a window's document
+-- a window is written as `@` and the name of its document
 abbrev pub aim_text : Aim → List ℕ
 aim_text (PlainAim operand) = operand_text operand
 aim_text (WindowAim document) = 64 ∷ document
 
--- `-` stands for none
+-- `-` stands for None
 abbrev pub dash_or : {A : Type 0} → (A → List ℕ) → Option A → List ℕ
 dash_or text None = codes "-"
 dash_or text (Some value) = text value

@@ -1,5 +1,5 @@
--- One page of a stream as it runs. It has a world of its own, and its commands are run as those of its script alone: what another page
--- does is nowhere here. Only when they are run is told by the stream. This form is this project's own choice.
+-- One page of a stream as it runs. It has a world of its own, and its commands are run like those of its script alone: other pages don't
+-- affect it. The stream only determines when they are run. This form is this project's own choice.
 use Rattle.std.specs.Prelude.{ℕ, ◌==◌, cond, List, [], ◌∷◌, Ok, Err}
 use Rattle.script_model.specs.Syntax.{Command, Simple, Each, When, Item, Outside, Tick, Handler}
 use Rattle.script_model.specs.Scripts.{NamedBlock, handlers_in}
@@ -9,13 +9,13 @@ use Rattle.page_model.specs.World.{World}
 use Rattle.page_model.specs.Runs.{Flow, Next, Thrown, Limited, Said}
 use Rattle.page_model.specs.Outcome.{opening_world, run_item, Ending, Ended, LimitMet, refused_ending}
 
--- a page with its script by its reading
+-- a page with the reading of its script
 pub record PageScript : Type 0 where
   pub name : List ℕ
   pub read : Reading
 
--- how a page stands: it goes on, with the handlers of its script, the items that are left to run, and its world; or its run is over
--- before its end, since its script was refused or a limit was met
+-- the state of a page: it goes on, with the handlers of its script, the items that are left to run, and its world; or its run ended
+-- early, because its script was refused or a limit was met
 pub data Standing : Type 0 where
   Going : (handlers : List NamedBlock) (left : List Item) (world : World) → Standing
   Over : (ending : Ending) → Standing
@@ -24,7 +24,7 @@ pub record PageRun : Type 0 where
   pub name : List ℕ
   pub standing : Standing
 
--- a page before its first command; of a script that is refused none is run
+-- a page before its first command; if its script is refused, no command is run
 abbrev pub opened_with : Reading → Standing
 opened_with (Ok script) = Going (handlers_in (script.items)) (script.items) (opening_world (script.version))
 opened_with (Err refusal) = Over (refused_ending refusal)
@@ -32,12 +32,12 @@ opened_with (Err refusal) = Over (refused_ending refusal)
 abbrev pub opened : PageScript → PageRun
 opened script = record { name = script.name; standing = opened_with script.read }
 
--- how a page ends that isn't run on
+-- how a page ends if it isn't run any further
 abbrev pub ending_at : Standing → Ending
 ending_at (Going handlers left world) = Ended
 ending_at (Over ending) = ending
 
--- what is said of a script that is refused
+-- what is written for a script that is refused
 abbrev pub refused_lines : Reading → List TraceLine
 refused_lines (Ok script) = []
 refused_lines (Err refusal) = refusal_line refusal ∷ []
@@ -53,7 +53,7 @@ item_line (Outside command) = command_line command
 item_line (Tick line time) = line
 item_line (Handler line name block end_line) = line
 
--- what a page says at one of its lines, and how it stands then
+-- what a page writes at one of its lines, and its state afterwards
 pub record Turn : Type 0 where
   pub lines : List TraceLine
   pub standing : Standing
@@ -61,17 +61,17 @@ pub record Turn : Type 0 where
 abbrev pub passed : Standing → Turn
 passed standing = record { lines = []; standing = standing }
 
--- behind a limit no further command is run
+-- after a limit was met, no further command is run
 abbrev pub stands_by : Flow → List NamedBlock → List Item → World → Standing
 stands_by Next handlers left world = Going handlers left world
 stands_by Thrown handlers left world = Going handlers left world
 stands_by Limited handlers left world = Over LimitMet
 
--- an item was run, and these are left
+-- the turn in which an item was run, with the items that are left
 abbrev pub went_on : List NamedBlock → List Item → Said World → Turn
 went_on handlers left said = record { lines = said.lines; standing = stands_by (said.flow) handlers left (said.state) }
 
--- a page at a line of its script: its next item is run where it begins there
+-- a page's turn at a line of its script: its next item is run if it begins at this line
 unfoldable pub turn_at : ℕ → Standing → Turn
 unfolding run_item
 turn_at line (Over ending) = passed (Over ending)

@@ -1,5 +1,5 @@
--- Several pages of one stream side by side. First each page whose script is refused has its one line. Then the commands outside handlers
--- and blocks are run in the order in which their first lines stand in the stream, each in the world of its own page. Each line that is
+-- Several pages of one stream side by side. First the one line of each page whose script is refused is written. Then the commands outside
+-- handlers and blocks are run in the order of their first lines in the stream, each in the world of its own page. Each line that is
 -- written has the page's name and a space before it. This form is this project's own choice.
 use Rattle.std.specs.Prelude.{ℕ, ◌+◌, nat_eq, List, [], ◌∷◌, ◌++◌, length, map, filter, flat_map, fold, drop, slice_get, slice_set, Option, Some, None}
 use Rattle.std.specs.List.{concat, starts_with}
@@ -12,7 +12,7 @@ use Rattle.page_stream.specs.Pages.{pages_of}
 use Rattle.page_stream.specs.Parts.{parts_of, script_of}
 use Rattle.stream_runs.specs.PageRuns.{PageScript, PageRun, opened, refused_lines, Turn, turn_at}
 
--- these pages, the first of which has this place, with their scripts
+-- these pages with their scripts; the first of them has this index
 unfoldable pub scripts_from : ℕ → List (List ℕ) → List ℕ → List PageScript
 unfolding reading script_of
 scripts_from place [] source = []
@@ -28,7 +28,7 @@ unfoldable pub named_text : List ℕ → List TraceLine → List ℕ
 unfolding line_text
 named_text name lines = flat_map (λ line. name ++ (32 ∷ line_text line)) lines
 
--- what was written of a stream, and its pages then
+-- what has been written for a stream, and its pages afterwards
 pub record StreamRun : Type 0 where
   pub text : List ℕ
   pub pages : List PageRun
@@ -51,12 +51,12 @@ abbrev pub turned : Option PageRun → Part → StreamRun → StreamRun
 turned None part run = run
 turned (Some page) part run = with_turn part.page page.name run (turn_at part.line page.standing)
 
--- a line of the stream: the page whose line it is takes its turn, and the others stay as they are
+-- a line of the stream: the page that it belongs to takes its turn, and the others stay as they are
 unfoldable pub stream_step : StreamRun → Part → StreamRun
 unfolding turn_at named_text
 stream_step run part = turned (slice_get run.pages part.page) part run
 
--- these lines, from how the pages stand before them
+-- runs these lines, from the states that the pages have before them
 unfoldable pub parts_run : List PageRun → List Part → StreamRun
 unfolding stream_step
 parts_run pages parts = fold stream_step (record { text = []; pages = pages }) parts
@@ -65,7 +65,7 @@ unfoldable pub stream_run : List ℕ → StreamRun
 unfolding stream_step stream_opened scripts_of parts_of
 stream_run source = fold stream_step (stream_opened (scripts_of source)) (parts_of source)
 
--- the lines of a stream's text with this page's name, the name and the space cut off
+-- the lines of a stream's text that begin with this page's name, without the name and the space
 unfoldable pub text_of_page : List ℕ → List ℕ → List ℕ
 unfolding lines_of
 text_of_page name text =

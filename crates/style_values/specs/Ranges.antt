@@ -1,4 +1,4 @@
--- Which values the properties have: no length but an inset is negative, and each has a bound, which is this project's own choice.
+-- Which values the properties allow: only insets may be negative, and each length has a bound, which is this project's own choice.
 use Rattle.std.specs.Prelude.{ℤ, pos, neg_ℤ, ◌≤ℤ◌, Option, Some, None}
 use Rattle.px_units.specs.declared.Length.{Length}
 use Rattle.px_units.specs.declared.Length.TheVariants as values
@@ -37,7 +37,7 @@ IsInset values.Auto = Unit {0}
 IsInset (values.Px px) = (neg_ℤ (pos 64000000) ≤ℤ px.0) × (px.0 ≤ℤ pos 64000000)
 IsInset (values.Percent percent) = (neg_ℤ (pos 1000000) ≤ℤ percent.0) × (percent.0 ≤ℤ pos 1000000)
 
--- whether a declaration holds a value that its property has
+-- whether a declaration has a value that its property allows
 abbrev pub IsAllowed : Declaration → Type 0
 IsAllowed (declaration.Display value) = Unit {0}
 IsAllowed (declaration.Width value) = IsAutoOrSize value
@@ -57,7 +57,7 @@ IsAllowed (declaration.Right value) = IsInset value
 IsAllowed (declaration.Bottom value) = IsInset value
 IsAllowed (declaration.Left value) = IsInset value
 
--- whether each property of a style has a value of its own
+-- whether each property of a style has a value that it allows
 pub record IsStyle (style : Style) : Type 0 where
   pub width : IsAutoOrSize style.width
   pub height : IsAutoOrSize style.height

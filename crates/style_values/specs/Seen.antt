@@ -52,7 +52,7 @@ seen_sides Bottom = BottomSide
 seen_sides Left = LeftSide
 seen_sides All = AllSides
 
--- lengths by what they are without a sign, but for insets; specs/Ranges.antt says that none of the others is negative
+-- lengths except insets are given by their absolute values; specs/Ranges.antt says that none of them is negative
 abbrev pub seen_style : Style → StyleModel
 seen_style style = record {
   hidden = seen_display style.display;

@@ -1,5 +1,5 @@
--- Which version of the script language first has the property of a declaration. That only the second one has positions is this
--- project's own.
+-- The first version of the script language that has the property of a declaration. That only version 2 has positioning is this project's
+-- own.
 use Rattle.std.specs.Prelude.{Bool, true, false, Option, Some, None}
 use Rattle.layout_model.specs.Styles.{Declaration, SetDisplay, SetWidth, SetHeight, SetMinWidth, SetMinHeight, SetMaxWidth, SetMaxHeight, SetMargin, SetPadding, SetBorder, SetBoxSizing, SetOverflow, SetPosition, SetTop, SetRight, SetBottom, SetLeft}
 use Rattle.text_io.specs.declared.kinds.Version.{Version}
@@ -24,7 +24,7 @@ version_of (SetRight value) = Second
 version_of (SetBottom value) = Second
 version_of (SetLeft value) = Second
 
--- whether a version has what this is the first version of: where there is none, no version has it
+-- whether a version has something, given the first version that has it; with None, no version has it
 abbrev pub reads : Version → Option Version → Bool
 reads version None = false
 reads First (Some First) = true

@@ -53,7 +53,7 @@ event_word Scroll = codes "scroll"
 event_word Error = codes "error"
 event_word Change = codes "change"
 
--- the first of some values that has this word
+-- the first of these values that has this word
 unfoldable pub named : {A : Type 0} → (A → List ℕ) → List A → List ℕ → Option A
 named word_of values word = find (λ value. bytes_eq (word_of value) word) values
 

@@ -1,18 +1,18 @@
--- How much a run may hold of each thing, by the version of its script. The limits are this project's own choice.
+-- The limits of a run, by the version of its script. They are this project's own choice.
 use Rattle.std.specs.Prelude.{◌≡◌, ℕ}
 use Rattle.text_io.specs.declared.kinds.Version.{Version}
 use Rattle.text_io.specs.declared.kinds.Version.TheVariants.{First, Second}
 use Rattle.text_io.specs.declared.kinds.LimitKind.{LimitKind}
 use Rattle.text_io.specs.declared.kinds.LimitKind.TheVariants as limits
 
--- the number of a version
+-- the first number for version 1, the second for version 2
 abbrev pub by_version : Version → ℕ → ℕ → ℕ
 by_version First first second = first
 by_version Second first second = second
 
--- bytes of a script; bytes of a line; handlers; blocks one in the other; commands begun; nodes, documents, observers
--- and query lists ever made; the depth of an element; and observations, listeners, timers, frame callbacks and posted
--- tasks held at one time; bytes of a source with a recorded trace; and pages of a stream
+-- bytes of a script; bytes of a line; handlers; nested blocks; commands begun; nodes, documents, observers and query lists ever created;
+-- the depth of an element; observations, listeners, timers, frame callbacks and posted tasks that exist at one time; bytes of a source
+-- with a recorded trace; and pages of a stream
 abbrev pub limit_number : Version → LimitKind → ℕ
 limit_number version limits.Script = 16777216
 limit_number version limits.Line = 4096
@@ -34,11 +34,11 @@ limit_number version limits.Queries = 4096
 limit_number version limits.Recorded = 67108864
 limit_number version limits.Pages = 8
 
--- a kind of limit that has one number, whatever the version
+-- a kind of limit that has the same number in both versions
 abbrev pub IsCommon : LimitKind → Type 0
 IsCommon kind = limit_number First kind ≡ limit_number Second kind
 
--- a limit that is the same in each version: those that are met before the version is known, while a text is read, and those of the
--- levels of a tree and of documents
+-- the number of a limit that is the same in both versions: those that are met while a text is read, before its version is known, and those
+-- on the depth of a tree and on documents
 abbrev pub common_limit : LimitKind → ℕ
 common_limit kind = limit_number First kind

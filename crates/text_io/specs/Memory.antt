@@ -1,8 +1,8 @@
--- A source and a sink in memory, with the calls that are to fail. This project's own choice.
+-- A source and a sink in memory, of which given calls fail. This project's own choice.
 use Rattle.std.specs.Prelude.{ℕ, ◌+◌, ◌-◌, ◌^◌, ◌==◌, ◌||◌, nat_le, min, Bool, if◌then◌else◌, List, ◌++◌, length, take, drop}
 use Rattle.std.specs.List.{list_any}
 
--- the bytes left, at most how many a call gives, the numbers of the calls that fail, and how many calls were made and failed
+-- the bytes left, the most that a call gives, the numbers of the calls that fail, and how many calls were made and how many failed
 pub record SourceInMemory : Type 0 where
   pub left : List ℕ
   pub piece : ℕ
@@ -10,7 +10,8 @@ pub record SourceInMemory : Type 0 where
   pub calls : ℕ
   pub faults : ℕ
 
--- the bytes taken, how many there is room for in all, at most how many a call takes, the numbers of the calls that fail, and how many calls were made and failed
+-- the bytes taken, how many there is room for in all, the most that a call takes, the numbers of the calls that fail, and how many calls
+-- were made and how many failed
 pub record SinkInMemory : Type 0 where
   pub taken : List ℕ
   pub room : ℕ
@@ -19,15 +20,15 @@ pub record SinkInMemory : Type 0 where
   pub calls : ℕ
   pub faults : ℕ
 
--- one more, but for the greatest number of 64 bits, which stays
+-- one more, saturating at the greatest 64-bit number
 abbrev pub next_count : ℕ → ℕ
 next_count n = min (n + 1) (2 ^ 64 - 1)
 
--- a number is among those of the calls that fail
+-- whether the call with this number is one of those that fail
 abbrev pub is_failing : List ℕ → ℕ → Bool
 is_failing failing call = list_any (λ number. number == call) failing
 
--- the next read fails
+-- whether the next read fails
 abbrev pub read_fails : SourceInMemory → Bool
 read_fails s = is_failing s.failing s.calls
 
@@ -39,7 +40,7 @@ bytes_given s room = min (min room s.piece) (length s.left)
 abbrev pub after_read : SourceInMemory → ℕ → SourceInMemory
 after_read s room = if read_fails s then record s { calls = next_count s.calls; faults = next_count s.faults } else record s { left = drop (bytes_given s room) s.left; calls = next_count s.calls }
 
--- the next write fails: its number says so, or no room is left
+-- whether the next write fails: because of its number, or because no room is left
 abbrev pub write_fails : SinkInMemory → Bool
 write_fails s = is_failing s.failing s.calls || nat_le s.room (length s.taken)
 

@@ -1,6 +1,6 @@
--- The judgement of a recorded trace beside the expected one. Equal traces are so with the number of their lines. Others differ at
--- the first place, from 1, where their lines differ or one of them has ended. The recorded one has a line too many there, or none,
--- or one that is no line of a trace, or one with other bytes. This form is this project's own choice.
+-- The judgement of a recorded trace against the expected one. Equal traces are reported with the number of their lines. Others differ at
+-- the first line, counted from 1, at which their lines differ or one of them has ended. There the recorded trace has an extra line, or
+-- none, or one that isn't a trace line, or one with other bytes. This form is this project's own choice.
 use Rattle.std.specs.Prelude.{ℕ, ◌+◌, cond, nat_eq, List, [], ◌∷◌, drop, bytes_eq}
 use Rattle.std.specs.List.{common_prefix_len}
 use Rattle.trace_judge.specs.declared.judgement.How.{How}
@@ -9,7 +9,7 @@ use Rattle.trace_judge.specs.declared.judgement.Judgement.{Judgement}
 use Rattle.trace_judge.specs.declared.judgement.Judgement.TheVariants.{Equal, Differs}
 use Rattle.trace_judge.specs.Lines.{lines_of, is_trace_line}
 
--- the column, from 1, of the first byte of a line that another one hasn't there
+-- the column, from 1, of the first byte at which two lines differ
 abbrev pub column_of : List ℕ → List ℕ → ℕ
 column_of expected recorded = 1 + common_prefix_len nat_eq expected recorded
 
@@ -18,7 +18,7 @@ unfoldable pub how_lines_differ : List ℕ → List ℕ → How
 unfolding is_trace_line
 how_lines_differ expected recorded = cond (is_trace_line recorded) (Text (column_of expected recorded)) NotALine
 
--- after so many equal lines, what these lines of both tell that are left then
+-- the judgement after so many equal lines, from the lines that are left of both traces
 abbrev pub from_there : ℕ → List (List ℕ) → List (List ℕ) → Judgement
 from_there equal [] [] = Equal equal
 from_there equal [] (recorded ∷ others) = Differs (equal + 1) Extra

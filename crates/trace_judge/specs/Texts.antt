@@ -1,4 +1,4 @@
--- The line that tells a judgement. This form is this project's own choice.
+-- The line that reports a judgement. This form is this project's own choice.
 use Rattle.std.specs.Prelude.{ℕ, List, [], ◌∷◌, ◌++◌, codes}
 use Rattle.word_model.specs.Numbers.{decimal}
 use Rattle.trace_judge.specs.declared.judgement.How.{How}

@@ -1,4 +1,4 @@
--- How a step that was run goes on, as the definitions say it.
+-- How a run goes on after a step, in the terms of the definitions.
 use Rattle.page_model.specs.Runs as runs
 use Rattle.trace_runs.specs.declared.faults.Flow.{Flow}
 use Rattle.trace_runs.specs.declared.faults.Flow.TheVariants.{Next, Thrown}
@@ -7,6 +7,6 @@ abbrev pub flow_of : Flow → runs.Flow
 flow_of Next = runs.Next
 flow_of Thrown = runs.Thrown
 
--- the flow of a call that catches what is thrown
+-- the flow after a call that catches what is thrown
 abbrev pub goes_on : {A : Type 0} → A → runs.Flow
 goes_on value = runs.Next

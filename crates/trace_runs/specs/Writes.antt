@@ -1,4 +1,4 @@
--- What is written of a text, and of lines, to a sink that may fail. This project's own choice.
+-- How much of a text, or of lines, is written to a sink that may fail. This project's own choice.
 use Rattle.std.specs.Prelude.{◌≡◌, ℕ, List, ◌++◌, Option, Result, Ok, Err}
 use Rattle.std.specs.List.{All}
 use Rattle.std.specs.Io.KnownBytes.{Appends}
@@ -9,7 +9,7 @@ use Rattle.trace_text.specs.Ranges.{IsLine}
 use Rattle.trace_runs.specs.declared.faults.RunFault.{RunFault}
 use Rattle.trace_runs.specs.declared.faults.RunFault.TheVariants.{Limit, Memory, WriteFault}
 
--- known bytes grow by a first part of a text
+-- a first part of a text was appended to the bytes, if these are known
 pub record AppendsPart (before after : Option (List ℕ)) (text : List ℕ) : Type 0 where
   pub part : List ℕ
   pub rest : List ℕ
@@ -21,19 +21,20 @@ pub record FailsWithin (before after : Option (List ℕ)) (faults faults_after :
   pub part : AppendsPart before after text
   pub rose : Rose faults faults_after
 
--- a text was written, and no write failed, or a first part of it was, and the reason stands
+-- a text was written, and no write failed; or a first part of it was written, for the reason that the result gives
 abbrev pub Wrote : {A : Type 0} → Result A RunFault → Option (List ℕ) → Option (List ℕ) → ℕ → ℕ → List ℕ → Type 0
 Wrote (Ok value) before after faults faults_after text = Appends before after text × (faults_after ≡ faults)
 Wrote (Err (Limit kind line number)) before after faults faults_after text = ⊥
 Wrote (Err Memory) before after faults faults_after text = AppendsPart before after text
 Wrote (Err WriteFault) before after faults faults_after text = FailsWithin before after faults faults_after text
 
--- lines were written, of which each can be read back
+-- lines were written, each of which can be read back
 pub record Says (before after : Option (List ℕ)) (lines : List TraceLine) : Type 0 where
   pub written : Appends before after (bytes_of lines)
   pub fit : All IsLine lines
 
--- the same of lines: they were written, and no write failed, or a first part of their text was, and the reason stands
+-- the same for lines: they were written, and no write failed; or a first part of their text was written, for the reason that the result
+-- gives
 abbrev pub Told : {A : Type 0} → Result A RunFault → Option (List ℕ) → Option (List ℕ) → ℕ → ℕ → List TraceLine → Type 0
 Told (Ok value) before after faults faults_after lines = Says before after lines × (faults_after ≡ faults)
 Told (Err (Limit kind line number)) before after faults faults_after lines = ⊥

@@ -1,4 +1,4 @@
--- A line more among those counted, and room for it.
+-- Counting one more line, and the room for it.
 use Rattle.std.specs.Prelude.{◌+◌, ◌-◌, ◌^◌, ◌<◌}
 use Rattle.script_model.specs.TraceLines.{TraceLine, TickLine, TimerLine, FrameLine, TaskLine, EventLine, ResizeLine, RoundLine, IntersectLine, TakeLine, SayLine, ReadLine, ThrowLine, LimitLine, SyntaxLine}
 use Rattle.trace_summary.specs.declared.summary.Summary.{Summary}

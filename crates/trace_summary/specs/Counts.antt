@@ -1,5 +1,4 @@
--- How many lines of each kind a trace has, and the text that tells it: a line for each kind. This form is this project's own
--- choice.
+-- How many lines of each kind a trace has, and the text that reports it: a line for each kind. This form is this project's own choice.
 use Rattle.std.specs.Prelude.{◌≡◌, ℕ, List, [], ◌∷◌, ◌++◌, codes}
 use Rattle.std.specs.List.{All}
 use Rattle.word_model.specs.Numbers.{decimal}
@@ -9,7 +8,7 @@ use Rattle.page_model.specs.Outcome.{bytes_of}
 use Rattle.trace_text.specs.Ranges.{IsLine}
 use Rattle.trace_summary.specs.declared.summary.Summary.{Summary}
 
--- a text is that of these lines of a trace
+-- a text is that of these trace lines
 pub record IsTrace (text : List ℕ) (lines : List TraceLine) : Type 0 where
   pub fit : All IsLine lines
   pub makes : bytes_of lines ≡ text

@@ -1,4 +1,4 @@
--- The first line of a text: its bytes up to the first line feed, with it; and what stands behind it.
+-- The first line of a text, which is its bytes up to and including the first line feed; and the text after it.
 use Rattle.std.specs.Prelude.{ℕ, ◌==◌, cond, List, [], ◌∷◌}
 
 unfoldable pub first_line : List ℕ → List ℕ

@@ -1,5 +1,5 @@
--- Which lines there are. That lengths lie between -2 ^ 50 and 2 ^ 50 units is a bound of this project; the other ranges
--- are those of names and of the numbers' types.
+-- Which trace lines are possible. That lengths are between -2 ^ 50 and 2 ^ 50 units is a bound of this project; the other ranges are those
+-- of names and of the numbers' types.
 use Rattle.std.specs.Prelude.{◌≡◌, ℕ, ◌^◌, ◌<◌, true, List, ◌-ℤ◌, IfSome}
 use Rattle.word_model.specs.Names.{is_name}
 use Rattle.px_units.specs.declared.Rect.{Rect}
@@ -8,7 +8,7 @@ use Rattle.px_units.specs.declared.Size.{Size}
 use Rattle.px_units.specs.Rects.{InReach, RectInReach}
 use Rattle.script_model.specs.TraceLines.{FiredEvent, FiredResize, FiredScroll, FiredChange, FiredError, Intersection, TraceLine, TickLine, TimerLine, FrameLine, TaskLine, EventLine, ResizeLine, RoundLine, IntersectLine, TakeLine, SayLine, ReadLine, ThrowLine, LimitLine, SyntaxLine}
 
--- its edges, its width and its height; the latter two are negative where edges cross
+-- the edges, the width and the height are within reach; the latter two are negative if opposite edges cross
 pub record RectReaches (r : Rect) : Type 0 where
   pub edges : RectInReach r
   pub width : InReach (r.right -ℤ r.left)
@@ -60,7 +60,7 @@ pub record EntryFits (found : Intersection) : Type 0 where
   pub part : found.part < 2 ^ 128
   pub whole : found.whole < 2 ^ 128
 
--- names are names, and numbers are of their types
+-- names have the form of names, and numbers are in the ranges of their types
 abbrev pub Fits : TraceLine → Type 0
 Fits (TickLine time) = time < 2 ^ 64
 Fits (TimerLine document key) = IsName document × IsName key

@@ -1,5 +1,5 @@
--- How the code reads a line. That this is the inverse of the text of a line is proved in proofs/, and the contract of
--- `read_line` names the latter alone.
+-- How the code reads a line. That this is the inverse of the text of a line is proved in proofs/, and the contract of `read_line` refers
+-- only to that text.
 use Rattle.std.specs.Prelude.{ℕ, ◌+◌, ◌-◌, ◌*◌, ◌/◌, ◌%◌, ◌^◌, Bool, true, false, cond, not, ◌&&◌, ◌==◌, nat_lt, List, [], ◌∷◌, length, drop, ℤ, pos, neg_ℤ, ◌+ℤ◌, int_le, negsuc, Option, Some, None, option_map, take, take_while, bytes_eq, codes}
 use Rattle.word_model.specs.Names.{is_name}
 use Rattle.word_model.specs.Numbers.{digits_value, is_whole, at_most, leading_digits, behind_digits}
@@ -23,7 +23,7 @@ abbrev pub ◌>>=◌ : {A B : Type 0} → Option A → (A → Option B) → Opti
 None >>= next = None
 Some value >>= next = next value
 
--- a value and what stands behind it
+-- a value and the text after it
 abbrev pub Read : Type 0 → Type 0
 Read A = Option (A × List ℕ)
 
@@ -36,7 +36,7 @@ unfoldable pub behind_field : List ℕ → List ℕ
 unfolding field_of
 behind_field text = drop (length (field_of text)) text
 
--- the field behind a space
+-- the field after a space
 unfoldable pub field_at : List ℕ → Read (List ℕ)
 unfolding behind_field
 field_at [] = None
@@ -48,12 +48,12 @@ value_at of text = field_at text >>= λ field. of field.0 >>= λ value. Some (va
 abbrev pub name_of : List ℕ → Option (List ℕ)
 name_of field = cond (is_name field) (Some field) None
 
--- the name behind an `@`
+-- the name after an `@`
 unfoldable pub window_of : List ℕ → Option (List ℕ)
 window_of [] = None
 window_of (b ∷ bs) = cond (b == 64) (name_of bs) None
 
--- a number up to this one
+-- a number that isn't greater than this one
 unfoldable pub number_of : ℕ → List ℕ → Option ℕ
 number_of most field = cond (is_whole field) (at_most most (digits_value field)) None
 
@@ -72,7 +72,7 @@ unfoldable pub are_decimals : List ℕ → ℕ → Bool
 are_decimals [] left = left == 0
 are_decimals (d ∷ ds) left = not (left == 0) && d == 48 + left * 10 / 64 && are_decimals ds (left * 10 % 64)
 
--- the 64ths that begin with these decimals; two of them tell
+-- the number of 64ths whose decimals begin with these; the first two decimals determine it
 unfoldable pub sixty_fourths : List ℕ → ℕ
 sixty_fourths [] = 0
 sixty_fourths (a ∷ []) = ((a - 48) * 640 + 99) / 100
@@ -83,7 +83,7 @@ unfolding sixty_fourths are_decimals
 decimals_of digits =
     cond (nat_lt 0 (sixty_fourths digits) && nat_lt (sixty_fourths digits) 64 && are_decimals digits (sixty_fourths digits)) (Some (sixty_fourths digits)) None
 
--- the 64ths behind whole pixels
+-- the 64ths after the whole pixels
 unfoldable pub rest_of : List ℕ → Option ℕ
 unfolding decimals_of
 rest_of [] = Some 0
@@ -116,7 +116,7 @@ meets_of field = named meets_text (true ∷ false ∷ []) field
 abbrev pub both : {A B : Type 0} → (List ℕ → Read A) → (List ℕ → Read B) → List ℕ → Read (A × B)
 both first second text = first text >>= λ a. second a.1 >>= λ b. Some ((a.0, b.0), b.1)
 
--- the same value seen as another, where it can be
+-- the value that is read, converted to another one if that is possible
 abbrev pub as_read : {A B : Type 0} → (A → Option B) → (List ℕ → Read A) → List ℕ → Read B
 as_read seen read text = read text >>= λ a. seen a.0 >>= λ value. Some (value, a.1)
 
@@ -162,7 +162,7 @@ unfoldable pub whole_at : List ℕ → Read ℤ
 unfolding field_at whole_of
 whole_at = value_at whole_of
 
--- what stands behind this word
+-- the text after this word, if the word is the next field
 unfoldable pub behind_word : List ℕ → List ℕ → Option (List ℕ)
 unfolding field_at
 behind_word word text = field_at text >>= λ field. cond (bytes_eq field.0 word) (Some field.1) None
@@ -178,7 +178,7 @@ unfoldable pub size_at : List ℕ → Read Size
 unfolding pixels_at
 size_at = as_read (λ (p : ℤ × ℤ). Some (record { width = p.0; height = p.1 })) (both pixels_at pixels_at)
 
--- a size in device pixels, where a field follows
+-- a size in device pixels, if a field follows
 unfoldable pub device_at : List ℕ → Read (Option Size)
 unfolding whole_at behind_word
 device_at [] = Some (None, [])
@@ -190,7 +190,7 @@ device_at (b ∷ bs) =
 abbrev pub in_reach : ℤ → Bool
 in_reach edge = int_le (negsuc 1125899906842623) edge && int_le edge (pos 1125899906842624)
 
--- where a length ends that starts there
+-- the end of a length that begins at `start`, if it is within reach
 unfoldable pub edge_of : ℤ → ℤ → Option ℤ
 edge_of start length = cond (in_reach (start +ℤ length)) (Some (start +ℤ length)) None
 
@@ -207,21 +207,21 @@ rect_at = as_read rect_of (both point_at size_at)
 
 -- ---- lines
 
--- what a line is made of
+-- reads the value that a line is made from
 abbrev pub line_at : {A : Type 0} → (A → TraceLine) → (List ℕ → Read A) → List ℕ → Read TraceLine
 line_at line read text = read text >>= λ a. Some (line a.0, a.1)
 
--- what stands behind this text
+-- the rest of a text that begins with `front`
 unfoldable pub behind_text : List ℕ → List ℕ → Option (List ℕ)
 behind_text front text = cond (bytes_eq (take (length front) text) front) (Some (drop (length front) text)) None
 
--- what stands behind a space and this text
+-- the rest of a text that begins with a space and `front`
 unfoldable pub behind_space : List ℕ → List ℕ → Option (List ℕ)
 unfolding behind_text
 behind_space front [] = None
 behind_space front (b ∷ bs) = cond (b == 32) (behind_text front bs) None
 
--- the fields of an event behind its name
+-- the fields of an event after its name
 unfoldable pub event_by : EventKind → List ℕ → Read FiredEvent
 unfolding window_at name_at bool_at behind_space
 event_by event.Resize text = as_read (λ document. Some (FiredResize document)) window_at text
@@ -247,11 +247,11 @@ unfoldable pub limit_at : List ℕ → Read LimitKind
 unfolding field_at named
 limit_at = value_at limit_of
 
--- names, time, whether they meet and their areas
+-- the names, the time, whether target and root intersect, and the areas
 abbrev pub Seen : Type 0
 Seen = (List ℕ × List ℕ) × (ℕ × (Bool × (ℕ × ℕ)))
 
--- root, target and their common part
+-- the rectangles of the root, of the target, and of their intersection
 abbrev pub Rects : Type 0
 Rects = Rect × (Rect × Rect)
 
@@ -296,7 +296,7 @@ line_by kind.Limit text =
     line_at (λ (p : LimitKind × (ℕ × ℕ)). LimitLine p.0 p.1.0 p.1.1) (both limit_at (both u32_at u64_at)) text
 line_by kind.Syntax text = line_at (λ (p : ℕ × ℕ). SyntaxLine p.0 p.1) (both u32_at u32_at) text
 
--- the line, where a line feed and nothing else stands behind its fields
+-- the line, if its fields are followed by a line feed and nothing else
 abbrev pub ended : TraceLine × List ℕ → Option TraceLine
 ended line = cond (bytes_eq line.1 (10 ∷ [])) (Some line.0) None
 

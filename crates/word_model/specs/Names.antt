@@ -14,7 +14,7 @@ is_digit b = nat_le 48 b && nat_le b 57
 abbrev pub is_name_byte : ℕ → Bool
 is_name_byte b = is_letter b || is_digit b || b == 95 || b == 45
 
--- a letter, then name bytes, 32 bytes at the most
+-- a letter followed by name bytes, at most 32 bytes in all
 abbrev pub is_name : List ℕ → Bool
 is_name [] = false
 is_name (b ∷ bs) = is_letter b && list_all is_name_byte bs && nat_le (length bs) 31

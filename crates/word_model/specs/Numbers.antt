@@ -1,21 +1,21 @@
--- Numbers written in decimal, and the forms of a script's words that hold one. The forms, with their counts of
--- digits and their bounds, are this project's own choice. Bytes are ASCII: 45 is `-`, 46 is `.`, 48 to 57 are digits.
+-- Numbers written in decimal, and the forms of a script's words that contain one. The forms, with their numbers of digits and their
+-- bounds, are this project's own choice. Bytes are ASCII: 45 is `-`, 46 is `.`, 48 to 57 are digits.
 use Rattle.std.specs.Prelude.{ℕ, zero, suc, ◌+◌, ◌-◌, ◌*◌, ◌/◌, ◌%◌, ◌^◌, Bool, false, cond, not, ◌&&◌, ◌==◌, nat_lt, nat_le, List, [], ◌∷◌, ◌++◌, length, drop, ℤ, pos, neg_ℤ, Option, Some, None, option_map, fold, take_while, bytes_eq, codes}
 use Rattle.std.specs.List.{list_all}
 use Rattle.word_model.specs.Names.{is_digit}
 
--- decimal digits in front of a text, the last one first, at most so many of them
+-- puts the decimal digits of a number, at most so many, in front of a text, beginning with the last digit
 unfoldable pub decimal_on : ℕ → ℕ → List ℕ → List ℕ
 decimal_on zero number behind = behind
 decimal_on (suc places) number behind =
     cond (nat_lt number 10) ((48 + number) ∷ behind) (decimal_on places (number / 10) ((48 + number % 10) ∷ behind))
 
--- a number in decimal, without a leading zero; 39 digits hold each number below 2 ^ 128
+-- a number in decimal, without a leading zero; 39 digits are enough for every number below 2 ^ 128
 unfoldable pub decimal : ℕ → List ℕ
 unfolding decimal_on
 decimal number = decimal_on 39 number []
 
--- the number that digits write
+-- the number that digits represent
 unfoldable pub digits_value : List ℕ → ℕ
 digits_value digits = fold (λ value digit. value * 10 + (digit - 48)) 0 digits
 
@@ -23,10 +23,10 @@ unfoldable pub begins_with : ℕ → List ℕ → Bool
 begins_with byte [] = false
 begins_with byte (b ∷ bs) = b == byte
 
--- A written number has four parts: an optional `-`, digits, an optional point with digits behind it, and what stands
--- behind them all, its unit. A point without a digit behind it belongs to the unit.
+-- A written number has four parts: an optional `-`, digits, an optional point with digits after it, and all that follows, its unit. A
+-- point without a digit after it belongs to the unit.
 
--- what stands behind the sign
+-- the text after the sign, if there is one
 unfoldable pub unsigned : List ℕ → List ℕ
 unfolding begins_with
 unsigned text = cond (begins_with 45 text) (drop 1 text) text
@@ -38,24 +38,24 @@ unfoldable pub behind_digits : List ℕ → List ℕ
 unfolding leading_digits
 behind_digits text = drop (length (leading_digits text)) text
 
--- the digits behind the point that a text begins with, none where it begins otherwise
+-- the digits after the point that a text begins with; none if it doesn't begin with one
 unfoldable pub point_digits : List ℕ → List ℕ
 unfolding begins_with leading_digits
 point_digits text = cond (begins_with 46 text) (leading_digits (drop 1 text)) []
 
--- what stands behind this point and its digits
+-- the text after this point and its digits; the whole text if there are no such digits
 unfoldable pub behind_point : List ℕ → List ℕ
 unfolding point_digits behind_digits
 behind_point text = cond (length (point_digits text) == 0) text (behind_digits (drop 1 text))
 
--- the digits behind the point of a number, none where it has no point
+-- the digits after the point of a number, none if it has no point
 abbrev pub fraction_digits : List ℕ → List ℕ
 fraction_digits text = point_digits (behind_digits text)
 
 abbrev pub unit_of : List ℕ → List ℕ
 unit_of text = behind_point (behind_digits text)
 
--- a text made of these parts; there is a point only before digits
+-- the text made of these parts; the point is written only if there are digits after it
 abbrev pub spelled : Bool → List ℕ → List ℕ → List ℕ → List ℕ
 spelled negative whole fraction unit =
     cond negative (45 ∷ []) [] ++ whole ++ cond (length fraction == 0) [] (46 ∷ fraction) ++ unit
@@ -73,18 +73,18 @@ has_form most places unit text =
     nat_lt 0 (length (leading_digits text)) && nat_le (length (leading_digits text)) most
     && nat_le (length (fraction_digits text)) places && bytes_eq (unit_of text) unit
 
--- the number written, counted in units of its last place of so many
+-- the number that is written, times 10 to the power of `places`, if it has no more digits than that after its point
 unfoldable pub scaled : ℕ → List ℕ → ℕ
 unfolding digits_value leading_digits point_digits
 scaled places text =
     digits_value (leading_digits text) * 10 ^ places
     + digits_value (fraction_digits text) * 10 ^ (places - length (fraction_digits text))
 
--- a number that isn't above a bound
+-- a number, if it isn't above a bound
 unfoldable pub at_most : ℕ → ℕ → Option ℕ
 at_most bound number = cond (nat_le number bound) (Some number) None
 
--- the number, none where the text hasn't this form or the number as written is above the bound, itself so scaled
+-- the scaled number; None if the text doesn't have this form or the scaled number, as it is written, is above the bound
 unfoldable pub form_of : ℕ → ℕ → ℕ → List ℕ → List ℕ → Option ℕ
 unfolding has_form scaled at_most
 form_of bound most places unit text =
@@ -114,12 +114,12 @@ unfoldable pub hundredths_of_pixels : List ℕ → Option ℕ
 unfolding form_of
 hundredths_of_pixels text = form_of 100000000 7 2 (codes "px") text
 
--- a length in units of 1/64 pixel, cut to units
+-- a length in units of 1/64 pixel, rounded down
 unfoldable pub length_of : List ℕ → Option ℕ
 unfolding hundredths_of_pixels
 length_of text = option_map (λ hundredths. hundredths * 64 / 100) (hundredths_of_pixels text)
 
--- a length with an optional `-`, cut toward zero
+-- a length with an optional `-`, truncated toward zero
 unfoldable pub signed_of : List ℕ → Option ℤ
 unfolding signed_by length_of
 signed_of text = signed_by length_of text
