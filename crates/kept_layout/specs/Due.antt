@@ -23,8 +23,8 @@ abbrev pub is_held_at : Inputs → Option Found → Bool
 is_held_at inputs None = false
 is_held_at inputs (Some found) = same_inputs (seen_inputs found.inputs) inputs
 
--- by the inputs that a node has, none without a box: it is due where it has a box, and nothing is held yet, or its slot is
--- marked, or what is held was computed from other inputs
+-- given the inputs of a node, none if it has no box: it is due if it has a box, and nothing is held yet, or its slot is marked,
+-- or what is held was computed from other inputs
 abbrev pub is_due_at : Option Inputs → Slot → Bool
 is_due_at None slot = false
 is_due_at (Some inputs) slot = slot.marked || not (is_held_at inputs slot.found)
