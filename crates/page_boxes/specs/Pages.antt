@@ -1,4 +1,4 @@
--- What is asked of a page: sizes and the screen.
+-- The sizes and the screen of a page.
 use Rattle.std.specs.Prelude.{ℕ, unsigned_abs}
 use Rattle.px_units.specs.declared.Size.{Size}
 use Rattle.style_values.specs.Ranges.{IsHundredths}

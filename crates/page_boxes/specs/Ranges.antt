@@ -1,4 +1,4 @@
--- How far lengths and places reach.
+-- The ranges of lengths and places.
 use Rattle.std.specs.Prelude.{ℤ, pos, negsuc, ◌≤ℤ◌}
 use Rattle.px_units.specs.declared.Point.{Point}
 use Rattle.px_units.specs.declared.Rect.{Rect}

@@ -48,7 +48,7 @@ status_of (fault.Limit kind line number) = Limit
 status_of fault.Memory = NoMemory
 status_of fault.WriteFault = WriteFault
 
--- the status where all was written, else that of the fault
+-- this status if all was written, else that of the fault
 abbrev pub status_after : {A : Type 0} → Result A RunFault → Status → Status
 status_after (Ok done) status = status
 status_after (Err fault) status = status_of fault
