@@ -1,5 +1,6 @@
 -- Findings, translated to the coordinates of a world's findings: the target's box and the visible part of it to those of the
--- target's document, and the root rectangle to those of the root's. The zero rectangle of what doesn't exist isn't translated.
+-- target's document, and the root rectangle to those of the root's document. A zero rectangle that stands for a missing one isn't
+-- translated.
 use Rattle.std.specs.Prelude.{ℕ, ◌≤◌, Bool, true, false, List, length}
 use Rattle.px_units.specs.declared.Point.{Point}
 use Rattle.px_units.specs.declared.Rect.{Rect}

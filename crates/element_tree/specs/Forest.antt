@@ -73,8 +73,8 @@ next_of n xs = first_of (behind n xs)
 abbrev pub previous_of : ℕ → List ℕ → Option ℕ
 previous_of n xs = last_of (ahead n xs)
 
--- the list from this number on, which a walk along the next siblings still has before it when it is there; empty at the end of
--- the walk
+-- the list from this number on: what a walk along the next siblings that is at this number has yet to visit; empty at the walk's
+-- end
 abbrev pub rest_from : Option ℕ → List ℕ → List ℕ
 rest_from None xs = []
 rest_from (Some n) [] = []
@@ -119,18 +119,18 @@ abbrev pub greatest : (ℕ → ℕ) → List ℕ → ℕ
 greatest f [] = 0
 greatest f (x ∷ xs) = max (f x) (greatest f xs)
 
--- the number of nodes on the path from the node up to its root, both included, of at most so many that are looked at
+-- the number of nodes on the path from the node up to its root, both included, counting at most a given number
 unfoldable pub depth_up : ℕ → (ℕ → Option ℕ) → ℕ → ℕ
 depth_up zero parent n = 0
 depth_up (suc high) parent n = suc (above (depth_up high parent) (parent n))
 
--- whether the first node is on the path from the second up to its root, both ends included, among at most so many that are looked
--- at
+-- whether the first node is among the first nodes, at most a given number, on the path from the second up to its root, both ends
+-- included
 unfoldable pub on_path : ℕ → (ℕ → Option ℕ) → ℕ → ℕ → Bool
 on_path zero parent a n = false
 on_path (suc high) parent a n = (a == n) || is_above (on_path high parent a) (parent n)
 
--- the number of levels of the tree below the node, including its own, of at most so many that are looked at
+-- the number of levels of the tree below the node, including its own, counting at most a given number
 unfoldable pub height_down : ℕ → (ℕ → List ℕ) → ℕ → ℕ
 height_down zero children n = 0
 height_down (suc deep) children n = suc (greatest (height_down deep children) (children n))
@@ -148,8 +148,8 @@ module _ {P : Type 0} where
   unfoldable pub is_ancestor : List (Knot P) → ℕ → ℕ → Bool
   is_ancestor nodes a n = on_path most_levels (parent_of nodes) a n
 
-  -- lists of children and parents agree, no node is listed twice, and each node stands one level below its parent,
-  -- so that no node is its own ancestor
+  -- lists of children and parents agree, no node is listed twice, and each node is one level below its parent, so that no node is
+  -- its own ancestor
   pub record IsForest (most_depth : ℕ) (nodes : List (Knot P)) : Type 0 where
     pub listed : (p c : ℕ) → has (children_of nodes p) c ≡ names (parent_of nodes c) p
     pub once : (p : ℕ) → IsOnce (children_of nodes p)

@@ -90,7 +90,7 @@ module _ {P : Type 0} where
   walked walk slots None = []
   walked walk slots (Some n) = n.0 ∷ walk (links_at slots n.0).next
 
-  -- the nodes from one on along the next siblings, of at most so many that are looked at
+  -- the nodes from one on along the next siblings, at most a given number of them
   unfoldable pub walk : ℕ → Slab (Entry P) → Option NodeId → List ℕ
   walk zero slots from = []
   walk (suc most) slots from = walked (walk most slots) slots from

@@ -35,6 +35,6 @@ pub record GoesTo {K L A S : Type 0} (state : A → World → S) (taken : K → 
   pub script : new.script ≡ old.script
   pub lent : loans_of new ≡ loans_of old
 
--- the same where the state is the world
+-- the same with the world as the state
 abbrev pub Goes : {K L A : Type 0} → (K → Option (List ℕ)) → (K → ℕ) → Run K L → Run K L → Result A RunFault → Said World → Type 0
 Goes taken faults old new result said = GoesTo (λ value world. world) taken faults old new result said

@@ -19,7 +19,7 @@ painted_inside tree (Some document) = painted_root tree document
 abbrev pub painted_children : Tree → ℕ → List ℕ
 painted_children tree n = (element_at tree n).children ++ painted_inside tree (element_at tree n).framed
 
--- an element and what is below it, so many levels of it
+-- an element and what is below it, down to so many levels
 unfoldable pub painted_down : ℕ → Tree → ℕ → List ℕ
 painted_down zero tree n = []
 painted_down (suc deep) tree n = n ∷ flat_map (painted_down deep tree) (painted_children tree n)

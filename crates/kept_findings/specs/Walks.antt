@@ -55,7 +55,7 @@ chain_between scene standings chained root target = between_by (standings root t
 abbrev pub spots_between : (scene : Scene) (standings : Root → ℕ → Standing) → AreChained scene standings → IntersectionObservers → ℕ → List Container
 spots_between scene standings chained it serial = chain_between scene standings chained (observer_of it serial).root (target_of it serial)
 
--- what an observer with these scroll margins finds of a target, in the coordinates in which it is told
+-- what an observer with these scroll margins finds of a target, after `telling` has translated it
 abbrev pub found_in : (scene : Scene) (standings : Root → ℕ → Standing) → AreChained scene standings → (Root → ℕ → Finding → Finding) → Margins → IntersectionObserver → ℕ → Finding
 found_in scene standings chained telling margins observer target =
     telling

@@ -36,7 +36,7 @@ abbrev pub one_if : Bool → ℕ
 one_if true = 1
 one_if false = 0
 
--- how many of the nodes with a number below this one are due
+-- the number of nodes below this number that are due
 unfoldable pub due_count : (ℕ → Option Inputs) → (ℕ → Slot) → ℕ → ℕ
 due_count inputs slot zero = 0
 due_count inputs slot (suc n) = due_count inputs slot n + one_if (is_due inputs slot n)

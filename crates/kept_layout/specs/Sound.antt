@@ -17,7 +17,7 @@ pub record IsShownIn (at : ℕ → Node) (p c : ℕ) : Type 0 where
   pub listed : has (kids_of (at p)) c ≡ true
   pub shown : (at c).item.style.hidden ≡ false
 
--- such a child that counts in its parent: it is in flow (CSS 2.2, 9.3)
+-- such a child that is counted in its parent, since it is in flow (CSS 2.2, 9.3)
 pub record IsCounted (at : ℕ → Node) (p c : ℕ) : Type 0 where
   pub child : IsShownIn at p c
   pub flow : is_in_flow (at c) ≡ true
@@ -29,7 +29,7 @@ abbrev pub box_found : Option Found → Box
 box_found None = record { width = 0; height = 0; margin = no_sides; border = no_sides; padding = no_sides }
 box_found (Some found) = found.own
 
--- the box that is held for a node, an empty one where none is
+-- the box that is held for a node, an empty one if none is
 abbrev pub box_held : (ℕ → Slot) → ℕ → Box
 box_held slot n = box_found (slot n).found
 

@@ -22,12 +22,12 @@ abbrev pub IsFramed : (ℕ → Node) → ℕ → (ℕ → Slot) → (ℕ → Slo
 IsFramed at n old new = (m : ℕ) → is_in_path at n m ≡ false → new m ≡ old m
 
 -- what holds for the slots at every step of both walks: if a counted child is marked, so is its parent, and what is held without
--- a mark is right. A child out of flow may be marked though its parent isn't, since the second walk comes to it
+-- a mark is right. A child out of flow may be marked though its parent isn't, since the second walk goes to it
 pub record IsSoundInFlow (at : ℕ → Node) (slot : ℕ → Slot) : Type 0 where
   pub marks : (p c : ℕ) → IsCounted at p c → (slot c).marked ≡ true → (slot p).marked ≡ true
   pub right : (n : ℕ) (found : Found) → (slot n).marked ≡ false → (slot n).found ≡ Some found → IsRight at slot n found
 
--- within a node, each counted child wants the inputs that its parent passes down
+-- within a node, each counted child is to have the inputs that its parent passes down
 abbrev pub GoesInFlow : (ℕ → Node) → ℕ → (ℕ → Option Inputs) → Type 0
 GoesInFlow at n wanted = (p c : ℕ) (inputs : Inputs) → is_in_path at n p ≡ true → IsCounted at p c → wanted p ≡ Some inputs →
     wanted c ≡ Some (child_inputs (at p).item inputs)
@@ -73,7 +73,8 @@ pub record IsChildSettled (at : ℕ → Node) (root : ℕ) (viewport : Inputs) (
       → after + due_count wanted new count ≤ before + due_count wanted old count
   pub sound : IsSoundInFlow at new
 
--- a child out of flow is computed with what is in flow in it; one in flow is as it was
+-- a child was entered: nothing was written outside of it or for a node without a box; and if it is displayed in a node that the
+-- second walk is at, its box is held, and no box in flow in it is due
 pub record IsEntered (at : ℕ → Node) (x : ℕ) (outside : Outside) (count : ℕ) (old new : ℕ → Slot) (before after : ℕ) : Type 0 where
   pub framed : IsFramed at x old new
   pub unboxed : KeepsUnboxed at x old new

@@ -15,7 +15,7 @@ use Rattle.page_model.specs.PageBoxes.{view_of}
 pub record HoldsAll (at : ℕ → Node) (view : View) (kept : List Slot) : Type 0 where
   pub boxes : (n : ℕ) (inputs : Inputs) → inputs_in_view at view n ≡ Some inputs → IsFreshAt at (slot_in kept) n inputs
 
--- each box of a document, where `top` has this screen
+-- each box of a document, for a `top` with this screen
 abbrev pub IsFreshIn : Tree → Screen → List Slot → ℕ → Type 0
 IsFreshIn tree screen kept document = HoldsAll (nodes_of tree) (view_of tree screen document) kept
 

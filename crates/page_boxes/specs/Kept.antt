@@ -16,7 +16,7 @@ pub record AreKept (tree : Tree) (kept : List Slot) : Type 0 where
   pub sound : IsSound (nodes_of tree) (slot_in kept)
   pub unmade : (n : ℕ) → length tree.elements ≤ n → (slot_in kept n).found ≡ None
 
--- which elements are due, and how many, where `top` has this screen
+-- which elements are due, and how many, for a `top` with this screen
 abbrev pub is_due : Tree → Screen → List Slot → ℕ → Bool
 is_due tree screen kept = is_due_with (inputs_of tree screen) (slot_in kept)
 

@@ -1,4 +1,4 @@
--- The way from a document up to the top one, from the document to the one that holds its frame.
+-- The way from a document up to the top one, each step from a document to the one that holds its frame.
 use Rattle.std.specs.Prelude.{ℕ, zero, suc, List, [], ◌∷◌, ◌++◌, length, Option, Some, None, option_map, slice_get}
 use Rattle.page_model.specs.World.{Element, Tree}
 use Rattle.page_model.specs.Lookups.{document_at}

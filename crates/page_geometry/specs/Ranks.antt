@@ -14,7 +14,7 @@ abbrev pub level_by : (ℕ → ℕ) → Tree → Option ℕ → ℕ
 level_by above tree None = 0
 level_by above tree (Some frame) = suc (above (element_at tree frame).document)
 
--- the number of frames that a document is nested in, of at most so many that are looked at
+-- the number of frames that a document is nested in, counting at most a given number
 unfoldable pub level_up : ℕ → Tree → ℕ → ℕ
 level_up zero tree document = 0
 level_up (suc high) tree document = level_by (level_up high tree) tree (document_at tree document).frame

@@ -1,5 +1,5 @@
--- A page as the kept findings of intersection observers need it: the relation of targets to roots, the coordinates in which
--- findings are told, and which spots exist.
+-- A page as the kept findings of intersection observers need it: the relation of targets to roots, the coordinates of findings,
+-- and which spots exist.
 use Rattle.std.specs.Prelude.{ℕ, ◌<◌, ◌≤◌, length}
 use Rattle.page_model.specs.World.{Tree, Root, Finding}
 use Rattle.page_model.specs.Lookups.{no_intersection_observer}
@@ -26,6 +26,6 @@ IsThere tree (Document document) = document.0 < length tree.documents
 abbrev pub standings_of : Shown → Root → ℕ → Standing
 standings_of shown root target = standing_in (relation shown root target)
 
--- a finding in the coordinates in which a world tells it, which depend on nothing of the observer but its root
+-- a finding in the coordinates of a world's findings, for which nothing of the observer but its root matters
 abbrev pub telling_of : Shown → Root → ℕ → Finding → Finding
 telling_of shown root target found = told shown (record no_intersection_observer { root = root }) target (relation shown root target) found

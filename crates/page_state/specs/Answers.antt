@@ -22,14 +22,14 @@ lines_of world (Line line) = seen_line line ∷ []
 lines_of world (Taken observer entries) =
     TakeLine (intersection_observer_text (world.names) observer.0) (length entries) ∷ intersection_lines (world.names) observer.0 entries
 
--- a value, or why there is none; memory is refused only where the step gives a value
+-- a value, or why there is none; memory is refused only if the step gives a value
 abbrev pub Gives : {A : Type 0} → Result A PageFault → Step A → Type 0
 Gives (Ok value) step = step ≡ Did value
 Gives (Err (Throw kind)) step = step ≡ Threw kind
 Gives (Err (Limit kind)) step = step ≡ Met kind
 Gives (Err Memory) step = is_did step ≡ true
 
--- the effect of a command, or why there is none; memory is refused only where the command would have been done
+-- the effect of a command, or why there is none; memory is refused only if the command would have been done
 abbrev pub Applied : Result Effect PageFault → World → World → Step ModelEffect → Type 0
 Applied (Ok effect) old new step = step ≡ Did (record { world = new; lines = lines_of new effect })
 Applied (Err (Throw kind)) old new step = (step ≡ Threw kind) × (new ≡ old)

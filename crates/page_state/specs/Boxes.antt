@@ -22,7 +22,7 @@ pub record Computes (world : World) (old new : List Slot) (from to : ℕ) : Type
   pub fills : FillsOnly old new
   pub ticks : to + due_count world new ≤ from + due_count world old
 
--- the same for boxes of the given document and of the documents around it only, or for no box where no document is given
+-- the same for boxes of the given document and of the documents around it only, or for no box if no document is given
 pub record ComputesIn (world : World) (document : Option ℕ) (old new : List Slot) (from to : ℕ) : Type 0 where
   pub computes : Computes world old new from to
   pub others : LeavesOthers world.tree document old new

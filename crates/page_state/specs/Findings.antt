@@ -33,8 +33,8 @@ pub record KeepsFindings (before after : IntersectionObservers) (old new : HeldF
   pub pairs : (serial : ℕ) → IsStanding serial before → IsStanding serial after → pair_at new.clips serial ≡ pair_at old.clips serial
   pub findings : (serial : ℕ) → IsStanding serial before → IsStanding serial after → kept_of new.kept serial ≡ kept_of old.kept serial
 
--- something is kept of the registration: told in the coordinates of a world's findings, it is what is found through the scroll
--- margins of its observer
+-- something is kept of the registration: in the coordinates of a world's findings it is what is found through the scroll margins
+-- of the registration's observer
 pub record IsFound (shown : Shown) (margins : List Margins) (it : IntersectionObservers) (found : HeldFindings) (serial : ℕ) : Type 0 where
   pub some : IsSome (kept_of found.kept serial)
   pub told : IfSome (kept_of found.kept serial)

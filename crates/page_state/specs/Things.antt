@@ -12,7 +12,7 @@ present_with None meets = NoEntry
 present_with (Some node) None = ResizeEntry node.0
 present_with (Some node) (Some meets) = IntersectionEntry node.0 meets
 
--- a block, or an image of a natural size; frames aren't made from an item
+-- a block, or an image with a natural size in range; frames are made by a call of their own
 abbrev pub IsMade : ItemKind → Type 0
 IsMade Block = Unit {0}
 IsMade (Image size) = IsNatural size

@@ -39,7 +39,7 @@ unmade_of NodeLimit = made.Limit Nodes
 unmade_of DepthLimit = made.Memory
 unmade_of Memory = made.Memory
 
--- whether a sibling is named that isn't a child of the parent
+-- whether there is a given sibling that isn't a child of the parent
 abbrev pub is_elsewhere : List (Knot Described) → ℕ → Option ℕ → Bool
 is_elsewhere nodes p None = false
 is_elsewhere nodes p (Some sibling) = not (names (parent_of nodes sibling) p)

@@ -69,7 +69,8 @@ IsSpanOfSize size = IsSpan size.width × IsSpan size.height
 abbrev pub IsLength : ℤ → Type 0
 IsLength units = (pos 0 ≤ℤ units) × (units ≤ℤ pos 2147483647)
 
--- no number of a measure is negative or above 2 ^ 40, and no border is above the largest length
+-- no number of a measure is negative or above 2 ^ 40, and neither coordinate of the padding box's corner is above the largest
+-- length
 pub record IsMeasure (measure : Measure) : Type 0 where
   pub width : IsSpan measure.width
   pub height : IfSome measure.height IsSpan

@@ -1,4 +1,4 @@
--- What placing sees of an ordered tree of elements: the tree itself, and the style that each element carries.
+-- What placement needs of an ordered tree of elements: the tree itself, and the style that each element carries.
 use Rattle.std.specs.Prelude.{◌≡◌, ℕ, List, Some, slice_get}
 use Rattle.layout_model.specs.Styles.{Style}
 use Rattle.layout_model.specs.Nodes.{Node}

@@ -1,4 +1,4 @@
--- Exit statuses, and which ending of an outcome each status is.
+-- Exit statuses, and the status for each ending of an outcome.
 use Rattle.std.specs.Prelude.{ℕ, Bool, true, false, Result, Ok, Err}
 use Rattle.trace_runs.specs.declared.faults.RunFault.{RunFault}
 use Rattle.trace_runs.specs.declared.faults.RunFault.TheVariants as fault
