@@ -54,7 +54,7 @@ abbrev pub first_settled : Shown → List Margins → ℕ → ℕ → ℕ → In
 first_settled shown margins time watcher place it =
     each_settled time (found_through shown margins watcher (intersection_observer_at it watcher)) (take place (registrations_at it watcher)) it
 
--- some of the first registrations of an observer were settled, and no others
+-- the registrations of an observer up to some place were settled, and no others
 pub record IsBegun (shown : Shown) (margins : List Margins) (time watcher : ℕ) (before now : IntersectionObservers) : Type 0 where
   pub place : ℕ
   pub settled : now ≡ first_settled shown margins time watcher place before

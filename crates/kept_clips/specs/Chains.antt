@@ -29,7 +29,7 @@ stands touches (Some computed) chain = nat_lt computed.touches last_number && li
 abbrev pub standing_clip : Touched → Option Computed → List Container → Option Clip
 standing_clip touches computed chain = cond (stands touches computed chain) (option_map (λ (it : Computed). it.clip) computed) None
 
--- whether the clip held of a pair is returned without being computed again, given the spots between
+-- whether the clip held for a pair is returned without being computed again, given the spots between
 abbrev pub is_current : HeldClips → ℕ → List Container → Bool
 is_current it number between = stands (it.touches) (pair_of it number).computed (chain_of (pair_of it number) between)
 

@@ -27,7 +27,7 @@ scene_seen it = record {
   moved = λ of. false;
 }
 
--- what a look at a spot of a scene sees
+-- the sighting of a spot in a scene
 abbrev pub sighting_in : Scene → Container → Sighting
 sighting_in scene of = record { container = scene.container of; clip = scene.clip of; bounds = scene.bounds of; scrolls = scene.scrolls of }
 

@@ -37,10 +37,11 @@ abbrev pub touched_at : ℕ → Container → Touched → Touched
 touched_at number (Element node) it = record it { count = number; nodes = slice_set (it.nodes) (node.0) number }
 touched_at number (Document document) it = record it { count = number; views = slice_set (it.views) document.0 number }
 
--- a spot was touched after all touches counted before; once the count has reached the last number, its last touch has that number
+-- a spot was touched after all touches counted before; once the count has reached the last number, its last touch is at least
+-- that number
 abbrev pub IsTouchedSince : Touched → Touched → Container → Type 0
 IsTouchedSince before now spot = min (suc before.count) last_number ≤ last_touch now spot
 
--- the touches after one more, of this spot
+-- the touches after this spot was touched
 abbrev pub touched : Container → Touched → Touched
 touched spot it = touched_at (min (suc it.count) last_number) spot it

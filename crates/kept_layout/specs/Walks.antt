@@ -40,8 +40,8 @@ HaveBoxes at boxed = (p c : ℕ) → IsShownIn at p c → boxed p ≡ true → b
 abbrev pub KeepsUnboxed : (ℕ → Node) → ℕ → (ℕ → Slot) → (ℕ → Slot) → Type 0
 KeepsUnboxed at n old new = (boxed : ℕ → Bool) → HaveBoxes at boxed → boxed n ≡ true → (m : ℕ) → boxed m ≡ false → new m ≡ old m
 
--- the box of a node with these inputs, and those in flow in it, are computed if they are due, provided that there are `count`
--- slots; `before` and `after` are the numbers of steps
+-- the box of a node with these inputs, and those in flow in it, are computed if they are due, provided that `count` slots are
+-- enough for them; `before` and `after` are the numbers of steps
 pub record IsRefreshed (at : ℕ → Node) (n : ℕ) (inputs : Inputs) (count : ℕ) (old new : ℕ → Slot) (before after : ℕ) : Type 0 where
   pub settled : HasSlots at n count → IsSettled (new n) inputs
   pub above : HasSlots at n count → (new n).above ≡ (old n).above

@@ -3,7 +3,7 @@ use Rattle.std.specs.Prelude.{◌&&◌, nat_lt, List, length}
 use Rattle.kept_layout.specs.declared.slots.Slot.{Slot}
 use Rattle.page_tree.specs.Views.{PageElements}
 
--- elements and documents, and what is kept for each element; room for one more element counts only if its slot exists too
+-- elements and documents, and what is kept for each element; there is room for one more element only if its slot exists too
 pub record LaidElements : Type 0 where
   pub elements : PageElements
   pub kept : List Slot

@@ -17,7 +17,8 @@ use Rattle.page_state.specs.declared.answers.PageFault.{PageFault}
 abbrev pub due_count : World → List Slot → ℕ
 due_count world kept = due_count_in world.tree world.viewports.screen kept
 
--- boxes are computed, in at most as many steps as there are fewer boxes due afterwards. No mark is set, and no box is dropped
+-- boxes are computed; the steps that this takes are at most the decrease in the number of due boxes. No mark is set, and no box
+-- is dropped
 pub record Computes (world : World) (old new : List Slot) (from to : ℕ) : Type 0 where
   pub fills : FillsOnly old new
   pub ticks : to + due_count world new ≤ from + due_count world old

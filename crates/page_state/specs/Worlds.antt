@@ -30,7 +30,7 @@ world_of p = record {
 abbrev pub view_of : Inside → PageView
 view_of p = record { world = world_of p; begun = p.begun; kept = p.laid.kept; found = p.findings }
 
--- the number of things of each kind that have names; handlers aren't kept in a page
+-- how many things there are of each kind that has names; handlers aren't kept in a page
 abbrev pub counts_in : Inside → Counts
 counts_in p = record {
   elements = length p.laid.elements.tree.elements;

@@ -46,7 +46,7 @@ described name kind document framed = record {
   framed = framed;
 }
 
--- an element that belongs to another document
+-- an element after it was given to a document
 abbrev pub owned_by : ℕ → Described → Described
 owned_by document it = record it { document = document }
 

@@ -63,7 +63,7 @@ seen (Generated job number) left = Some []
 seen Judge left = left
 seen Pages left = left
 
--- whether a script is run and its page kept
+-- whether a script is run and its page returned, once the call is done
 abbrev pub is_run : Job → Bool
 is_run Replay = true
 is_run Check = false
