@@ -1,5 +1,4 @@
--- How the results of a page's calls correspond to the steps of the definitions. A call that throws or meets a limit leaves the
--- world unchanged.
+-- How the results of a page's calls correspond to the steps of the definitions. A call that fails leaves the world unchanged.
 use Rattle.std.specs.Prelude.{◌≡◌, ◌<◌, true, List, [], ◌∷◌, length, Result, Ok, Err, IfOk}
 use Rattle.script_model.specs.TraceLines.{TraceLine, TakeLine}
 use Rattle.page_model.specs.World.{World}
