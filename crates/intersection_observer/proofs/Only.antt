@@ -39,7 +39,7 @@ pub none-news : (n : ℕ) (now : Finding) (xs : List Registration) → NoneFor n
 none-news n now [] none = refl
 none-news n now (x ∷ xs) none = ap (λ b. b && is_news x now || is_news_of n now xs) (none.0) ∙ none-news n now xs (none.1)
 
-pub registrations_once : ℕ → ℕ → Finding → List Registration → List Registration
+unfoldable pub registrations_once : ℕ → ℕ → Finding → List Registration → List Registration
 registrations_once n time now xs = map (λ (it : Settled). it.registration) (map (settled_if n time now) xs)
 
 entries_once : ℕ → ℕ → Finding → List Registration → List Entry
