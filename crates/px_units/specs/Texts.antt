@@ -2,7 +2,7 @@
 use Rattle.std.specs.Prelude.{ℕ, zero, suc, ◌+◌, ◌*◌, ◌/◌, ◌%◌, ◌^◌, cond, ◌==◌, List, [], ◌∷◌, ◌++◌, ℤ, pos, int_lt, unsigned_abs}
 use Rattle.word_model.specs.Numbers.{decimal}
 
--- the last digits of a number, so many of them, with leading zeros
+-- a given number of the last digits of a number, with leading zeros
 unfoldable pub digits_in : ℕ → ℕ → List ℕ
 digits_in zero number = []
 digits_in (suc places) number = (48 + number / 10 ^ places % 10) ∷ digits_in places number

@@ -61,7 +61,7 @@ digit_at most value [] = Err 0
 digit_at most value (b ∷ bs) =
     cond (is_digit_under most value b) (Ok (with_digit value b, bs)) (Err (length (b ∷ bs)))
 
--- reads up to so many more digits of a number
+-- reads up to a given number of further digits
 unfoldable pub digits_at : ℕ → ℕ → ℕ → List ℕ → ℕ × List ℕ
 digits_at zero most value text = (value, text)
 digits_at (suc places) most value [] = (value, [])
