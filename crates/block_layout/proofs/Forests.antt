@@ -6,7 +6,7 @@ use Rattle.std.proofs.lemmas.Bool.Decides.{nat_tests}
 use Rattle.std.specs.Prelude.{Contains}
 use Rattle.layout_model.specs.Styles.{Style}
 use Rattle.layout_model.specs.Items.{Kind}
-use Rattle.layout_model.specs.Nodes.{path_above, path_up, path_of, depth_of, IsLinked, IsListed, IsShallow}
+use Rattle.layout_model.specs.Nodes.{path_above, path_up, path_of, depth_of, IsLinked, IsListed, IsShallow, Node}
 use Rattle.element_tree.specs.Forest.{Knot, IsForest, IsOnce, has, parent_of, children_of, depth, depth_up, above}
 use Rattle.element_tree.proofs.Depths.{depth_at, depth_one}
 use Rattle.element_tree.proofs.Facts.{listed_child}
@@ -39,20 +39,25 @@ unfolding depth_up
 above_nothing None parent = refl
 above_nothing (Some p) parent = refl
 
-module _ {P : Type 0} (style : P → Style) (kind : P → Kind) {most : ℕ} {nodes : List (Knot P)} (forest : IsForest most nodes) where
-  path_length : (high n : ℕ) → length (path_up high (layout_tree style kind nodes) n) ≡ depth_up (suc high) (parent_of nodes) n
+module _ {P : Type 0} {most : ℕ} {nodes : List (Knot P)} (forest : IsForest most nodes) (at : ℕ → Node) (parents : (n : ℕ) → (at n).parent ≡ parent_of nodes n) where
+  path_length : (high n : ℕ) → length (path_up high at n) ≡ depth_up (suc high) (parent_of nodes) n
   unfolding path_up
   path_length zero n = ap suc (above_nothing (parent_of nodes n) (parent_of nodes)) ∙ sym (depth_at 0 (parent_of nodes) n)
   path_length (suc high) n =
-      let up : length (path_above (path_up high (layout_tree style kind nodes)) ((layout_tree style kind nodes n).parent)) ≡ above (depth_up (suc high) (parent_of nodes)) (parent_of nodes n)
-      = above_length (path_up high (layout_tree style kind nodes)) (depth_up (suc high) (parent_of nodes)) (path_length high) ((layout_tree style kind nodes n).parent)
-      ∙ ap (above (depth_up (suc high) (parent_of nodes))) (parent_is style kind nodes n) in
+      let up : length (path_above (path_up high at) ((at n).parent)) ≡ above (depth_up (suc high) (parent_of nodes)) (parent_of nodes n)
+      = above_length (path_up high at) (depth_up (suc high) (parent_of nodes)) (path_length high) ((at n).parent)
+      ∙ ap (above (depth_up (suc high) (parent_of nodes))) (parents n) in
       ap suc up ∙ sym (depth_at (suc high) (parent_of nodes) n)
 
-  pub depth_same : (n : ℕ) → depth_of (layout_tree style kind nodes) n ≡ depth nodes n
+  -- nodes with the parents of a forest are as deep as in it
+  pub as_deep : (n : ℕ) → depth_of at n ≡ depth nodes n
   unfolding depth_of path_of
-  depth_same n =
+  as_deep n =
       path_length 65536 n ∙ depth_is (parent_of nodes) (depth nodes) (λ m top. depth_one nodes m top) forest.falls 65537 n (omega (arith, low_enough forest n))
+
+module _ {P : Type 0} (style : P → Style) (kind : P → Kind) {most : ℕ} {nodes : List (Knot P)} (forest : IsForest most nodes) where
+  pub depth_same : (n : ℕ) → depth_of (layout_tree style kind nodes) n ≡ depth nodes n
+  depth_same = as_deep forest (layout_tree style kind nodes) (parent_is style kind nodes)
 
   pub linked : IsLinked (layout_tree style kind nodes)
   linked p c among =

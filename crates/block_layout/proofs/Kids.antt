@@ -48,7 +48,7 @@ pub record Met {P : Type 0} (nodes : List (Knot P)) (kids : List ℕ) (n : ℕ) 
   pub step : rest next kids ≡ child.0 ∷ rest after kids
   pub among : IsAmong kids after
 
-inner_some : (kind : Kind) (children : List ℕ) (c : ℕ) → has (inner_children kind children) c ≡ true → inner_children kind children ≡ children
+pub inner_some : (kind : Kind) (children : List ℕ) (c : ℕ) → has (inner_children kind children) c ≡ true → inner_children kind children ≡ children
 inner_some BlockKind children c kid = refl
 inner_some (ImageKind width height) children c kid = cc
 inner_some FrameKind children c kid = cc

@@ -49,7 +49,7 @@ handed_block BlockKind item inputs block = refl
 handed_block (ImageKind width height) item inputs block = absurd cc
 handed_block FrameKind item inputs block = absurd cc
 
-once_kids : (kind : Kind) (children : List ℕ) → IsOnce children → IsOnce (inner_children kind children)
+pub once_kids : (kind : Kind) (children : List ℕ) → IsOnce children → IsOnce (inner_children kind children)
 once_kids BlockKind children once = once
 once_kids (ImageKind width height) children once = tt
 once_kids FrameKind children once = tt

@@ -1,4 +1,4 @@
--- What lies around the content of a box, in the code.
+-- The margin, border and padding around the content of a box, as the code has them.
 use Rattle.std.specs.Prelude.{ℕ}
 use Rattle.layout_model.specs.Styles.{Sides}
 use Rattle.layout_model.specs.Boxes.{Inputs}

@@ -1,5 +1,5 @@
--- How far the boxes in a node reach, found on one walk down, where no element in it is positioned: each child stands in its parent then,
--- below the siblings before it.
+-- The reach of the boxes in a node, computed in one walk downwards, if no element in the node is positioned: then each child is
+-- placed in its parent, below its earlier siblings.
 use Rattle.std.specs.Prelude.{ℕ, zero, suc, ◌+◌, Bool, true, false, List, [], ◌∷◌, ⊤}
 use Rattle.layout_model.specs.Items.{Item}
 use Rattle.layout_model.specs.Nodes.{Node, levels}
@@ -8,12 +8,12 @@ use Rattle.layout_model.specs.Points.{plus, larger}
 use Rattle.layout_model.specs.Clips.{clips}
 use Rattle.layout_model.specs.FlatPlaces.{offset_with}
 
--- from the corner of a parent's border box to that of a child's, under so much height of its earlier siblings
+-- from the corner of a parent's border box to that of a child's, with a height of `above` taken up by earlier siblings
 unfoldable pub offset_at : Item → Inputs → ℕ → Item → ℕ × ℕ
 unfolding computed child_inputs
 offset_at parent inputs above item = offset_with (computed parent inputs 0) above (child_inputs parent inputs) item
 
--- the farthest point that children give which are stacked from a height on
+-- the farthest point of children that are stacked from the height `above` on
 unfoldable pub far_kids : (ℕ → ℕ) → (ℕ → ℕ → ℕ × ℕ) → ℕ → List ℕ → ℕ × ℕ
 far_kids height far above [] = (0, 0)
 far_kids height far above (c ∷ cs) = larger (far above c) (far_kids height far (above + height c) cs)
@@ -34,8 +34,8 @@ abbrev pub open_kids : Bool → List ℕ → List ℕ
 open_kids true kids = []
 open_kids false kids = kids
 
--- the farthest right and bottom edges of the border boxes of a node and its descendants, but for those that a box in
--- between clips, where the corner of the node's border box is as given
+-- the farthest right and bottom edges of the border boxes of a node and its descendants, except for those that a box in between
+-- clips; `corner` is the corner of the node's border box
 unfoldable pub far_down : ℕ → (ℕ → Node) → Inputs → ℕ × ℕ → ℕ → ℕ × ℕ
 unfolding box_in child_inputs offset_at counted far_kids
 far_down zero at inputs corner n = (0, 0)
@@ -44,6 +44,6 @@ far_down (suc deep) at inputs corner n =
     (plus corner (border_size (box_in at inputs n)))
     (far_inside at (far_down deep at) ((at n).item) inputs corner (child_inputs ((at n).item) inputs) (open_kids (clips (at n)) (kids_of (at n))))
 
--- the farthest edges of these children of a node and of what is in them, where the corner of the node's border box is as given
+-- the same edges of these children of a node and their descendants; `corner` is the corner of the node's border box
 abbrev pub far_in : (ℕ → Node) → ℕ → Inputs → ℕ × ℕ → List ℕ → ℕ × ℕ
 far_in at n inputs corner kids = far_inside at (far_down levels at) ((at n).item) inputs corner (child_inputs ((at n).item) inputs) kids

@@ -1,4 +1,4 @@
--- What a walk that fills places gives for a node, by the inputs that the node has, where no element is positioned.
+-- What a walk that stores boxes in places gives for a node with these inputs, if no element is positioned.
 use Rattle.std.specs.Prelude.{◌≡◌, ◌≤◌, ℕ, Bool, true, false, Option, Some, None, option_map}
 use Rattle.layout_model.specs.Items.{Item, Kind, BlockKind, ImageKind, FrameKind}
 use Rattle.layout_model.specs.Nodes.{Node, depth_of, is_in_path, is_positioned}
@@ -17,11 +17,11 @@ abbrev pub if_shown : Bool → Option Inputs → Option Inputs
 if_shown true inputs = None
 if_shown false inputs = inputs
 
--- from this depth on each element has the inputs that its parent hands down, none where it has no box
+-- from this depth on each element has the inputs that its parent passes down, none if it has no box
 abbrev pub GoesDown : (ℕ → Node) → ℕ → (ℕ → Option Inputs) → Type 0
 GoesDown at depth inputs = (c p : ℕ) → (at c).parent ≡ Some p → depth ≤ depth_of at p → inputs c ≡ if_shown ((at c).item.style.hidden) (inputs_if_block ((at p).item.kind) ((at p).item) (inputs p))
 
--- the box that a node has at its inputs, none without inputs
+-- the box of a node with these inputs, none without inputs
 abbrev pub box_with : (ℕ → Node) → Option Inputs → ℕ → Option Box
 box_with at inputs n = option_map (λ given. box_in at given n) inputs
 

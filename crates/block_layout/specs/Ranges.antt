@@ -1,4 +1,4 @@
--- The largest length bounds what layout gives.
+-- The results of layout are bounded by the largest length.
 use Rattle.std.specs.Prelude.{ℕ, ◌≤◌, pos, ◌≤ℤ◌, IfSome}
 use Rattle.layout_model.specs.Styles.{Sides}
 use Rattle.layout_model.specs.Boxes.{Box}

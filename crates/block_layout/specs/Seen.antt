@@ -10,7 +10,7 @@ use Rattle.block_layout.specs.declared.Inputs.{Inputs}
 use Rattle.block_layout.specs.declared.ItemKind.{ItemKind}
 use Rattle.block_layout.specs.declared.ItemKind.TheVariants.{Block, Image, Frame}
 
--- lengths by what they are without a sign; specs/Ranges.antt says that none of what the code gives is negative
+-- lengths by their absolute values; specs/Ranges.antt says that nothing that the code gives is negative
 abbrev pub seen_inputs : Inputs → InputsModel
 seen_inputs inputs = record { width = unsigned_abs inputs.width; height = option_map unsigned_abs inputs.height; flow = inputs.flow }
 

@@ -20,7 +20,7 @@ use style_values::Style;
 /// The box of an element: the used size of its content, and its margins, borders and paddings (CSS 2.2, 8.1). Each is
 /// from 0 to 2,147,483,647 units. A contract sees it as the box of the definitions of layout.
 ///
-/// It comes from `compute_box`, `fresh_box` and `FreshBoxes::fill` alone.
+/// Only `compute_box`, `fresh_box` and `FreshBoxes::fill` create one.
 #[derive(Clone, Copy, Debug, PartialEq, Eq)]
 pub struct BoxOf {
     width: u64,
@@ -43,7 +43,8 @@ impl Model for BoxOf {
 }
 
 impl BoxOf {
-    /// The size of the content box or of the border box; for `Device` that of the content box, from which device pixels are counted.
+    /// Returns the size of the content box or of the border box; for `Device` that of the content box, from which device
+    /// pixels are computed.
     pub fn size(&self, kind: BoxKind) -> Size
         ensures content { kind ≡ BoxKind.Content → result ≡ as_size (content_size self.now) }
         ensures border { kind ≡ BoxKind.Border → result ≡ as_size (border_size self.now) }
@@ -56,7 +57,7 @@ impl BoxOf {
         }
     }
 
-    /// The size of the padding box.
+    /// Returns the size of the padding box.
     pub fn padding_size(&self) -> Size
         ensures value { result ≡ as_size (padding_size self.now) }
         ensures range { IsBox self.now }
@@ -64,7 +65,7 @@ impl BoxOf {
         self.padding_extent().size()
     }
 
-    /// The content's corner from that of the padding box: the left and top paddings.
+    /// Returns the top left corner of the content box relative to the padding box: the left and top paddings.
     pub fn content_corner(&self) -> Point
         ensures value { result ≡ as_point (content_corner self.now) }
         ensures range { IsBox self.now }
@@ -76,7 +77,7 @@ impl BoxOf {
         }
     }
 
-    /// The content's corner from that of the border box: the left and top borders and paddings.
+    /// Returns the top left corner of the content box relative to the border box: the left and top borders and paddings.
     pub fn inner(&self) -> Point
         ensures value { result ≡ as_point (inner_corner self.now) }
         ensures range { IsBox self.now }
@@ -84,7 +85,7 @@ impl BoxOf {
         self.inner_corner().point()
     }
 
-    /// The padding box's corner from that of the border box: the left and top borders.
+    /// Returns the top left corner of the padding box relative to the border box: the left and top borders.
     pub fn padding_corner(&self) -> Point
         ensures value { result ≡ as_point (padding_corner self.now) }
         ensures range { IsBox self.now }
@@ -92,7 +93,7 @@ impl BoxOf {
         self.padding_offset().point()
     }
 
-    /// The border box's corner from that of the margin box: the left and top margins.
+    /// Returns the top left corner of the border box relative to the margin box: the left and top margins.
     pub fn margin_corner(&self) -> Point
         ensures value { result ≡ as_point (self.now.margin.left, self.now.margin.top) }
         ensures range { IsBox self.now }
@@ -100,7 +101,7 @@ impl BoxOf {
         self.margin_offset().point()
     }
 
-    /// The height of the margin box.
+    /// Returns the height of the margin box.
     pub fn margin_height(&self) -> i64
         ensures value { result ≡ pos (margin_height self.now) }
         ensures range { IsBox self.now }
@@ -225,7 +226,8 @@ fn signed(units: u64) -> i64
     units as i64
 }
 
-// The used height where it doesn't depend on the children: it is given, or found between insets (CSS 2.2, 10.5 and 10.6.4).
+// Returns the used height if it doesn't depend on the children: it is given, or determined by insets (CSS 2.2, 10.5 and
+// 10.6.4).
 fn definite_height(style: &Style, inputs: Given, used: u64) -> Option<i64>
     requires { used ≤ 2147483647 }
     ensures value { (item : Item) → item.style ≡ seen_style style.now → result ≡ cond (has_definite_height item (seen_given inputs)) (Some (pos used)) None }
@@ -251,9 +253,9 @@ fn handed_down(style: &Style, kind: ItemKind, inputs: Given) -> Inputs
     }
 }
 
-/// The inputs of an element's children in flow, from its own: its used content width, and its used content height where its
-/// `height` is a length, or a percentage of a definite height, or where the element is out of flow between its `top` and `bottom`
-/// (CSS 2.2, 10.1, 10.5 and 10.6.4). They don't depend on the children.
+/// Returns the inputs of an element's children in flow, from its own: its used content width, and its used content height if
+/// its `height` is a length, or a percentage of a definite height, or if the element is out of flow and stretched between its
+/// `top` and `bottom` (CSS 2.2, 10.1, 10.5 and 10.6.4). They don't depend on the children.
 pub fn child_inputs<P: Styled>(item: &P, inputs: Inputs) -> Inputs
     ensures value { seen_inputs result ≡ child_inputs (record { style = P.style item.now; kind = P.kind item.now }) (seen_inputs inputs) }
     ensures range { IsInputs result }
@@ -261,8 +263,8 @@ pub fn child_inputs<P: Styled>(item: &P, inputs: Inputs) -> Inputs
     handed_down(item.style(), item.kind(), unsigned(inputs))
 }
 
-/// The box of an element at its inputs, where the margin box heights of its children with a box add up to `inside`
-/// (CSS 2.2, 8 to 10). It takes one step.
+/// Computes the box of an element from its inputs and from `inside`, the sum of the margin box heights of its children in
+/// flow that have a box (CSS 2.2, 8 to 10). It takes one step.
 pub fn compute_box<P: Styled, L: Ledger>(
     item: &P,
     inputs: Inputs,

@@ -16,7 +16,7 @@ use layout_model::capped;
 use std::sync::ledger::Ledger;
 use step_count::Steps;
 
-// A sum of heights with one more, capped.
+// Adds a height to a sum of heights, capped.
 pub(crate) fn added(inside: u64, height: u64) -> u64
     requires inside { inside ≤ 2147483647 }
     requires height { height ≤ 2 ^ 34 }
@@ -26,10 +26,10 @@ pub(crate) fn added(inside: u64, height: u64) -> u64
     capped(inside + height)
 }
 
-/// The box of a node at its inputs, computed anew with all boxes in it (CSS 2.2, 10). The node's own `display` is ignored. Boxes out of
-/// flow in it aren't computed: its own doesn't depend on them. It takes one step for each box that is computed.
+/// Computes the box of a node from its inputs, with all boxes in it (CSS 2.2, 10). The node's own `display` is ignored. Boxes
+/// out of flow in it aren't computed: its own doesn't depend on them. It takes one step for each box computed.
 ///
-/// It calls itself once a level: a tree of 2,000 levels was tried, while some 5,000 may use up the stack.
+/// It recurses once per level: a tree of 2,000 levels was tested, while some 5,000 may overflow the stack.
 pub fn fresh_box<P: Styled, L: Ledger>(
     tree: &Tree<P>,
     node: NodeId,

@@ -1,4 +1,4 @@
-//! Places that hold the boxes of a tree's nodes.
+//! Tables of the boxes of a tree's nodes.
 
 ghost use Rattle.std.specs.Prelude.{◌≡◌, ◌≢◌, ◌+◌, ◌^◌, ◌<◌, ◌≤◌, ℕ, true, false, Option, Some, None, [], length, option_map, OnOk, OnErr};
 ghost use Rattle.layout_model.specs.Nodes.{depth_of, is_in_path};
@@ -20,21 +20,21 @@ use std::marker::Model;
 use std::sync::ledger::Ledger;
 use step_count::Steps;
 
-/// What holds boxes of nodes.
+/// A table of the boxes of nodes.
 pub trait Boxes {
     ghost use Rattle.std.specs.Prelude.{ℕ, Option};
     ghost use Rattle.layout_model.specs.Boxes.{Box};
 
-    /// The box that is held for a node of this number.
+    /// The box held for the node with this number.
     ghost held: { Self → ℕ → Option Box };
 
-    /// The box that is held for the node, None exactly where nothing is held.
+    /// Returns the box held for the node, `None` exactly when none is held.
     fn box_of(&self, node: NodeId) -> Option<BoxOf>
         ensures { result ≡ held self.now node.0 };
 }
 
-/// A place for each node, which holds the box that was computed last. A contract sees the list of the places, by the
-/// nodes' numbers.
+/// A slot for each node, which holds the box that was computed last. Contracts see the list of the slots, by the nodes'
+/// numbers.
 #[derive(Drop)]
 pub struct FreshBoxes {
     places: Vec<Option<BoxOf>>,
@@ -61,7 +61,7 @@ impl Boxes for FreshBoxes {
 }
 
 impl FreshBoxes {
-    /// No places; it takes no memory yet.
+    /// Creates a table without slots; allocates nothing.
     pub fn new(alloc: Global) -> FreshBoxes
         ensures { result ≡ [] }
     {
@@ -70,8 +70,8 @@ impl FreshBoxes {
         }
     }
 
-    /// Makes the place of a node, which needn't be in a tree yet, and those of all lower numbers; places that are there
-    /// stay as they are. Refused only where there is no memory, and then nothing changes.
+    /// Adds the slot of a node, which needn't be in a tree yet, and those of all lower numbers; existing slots are unchanged.
+    /// Fails only if an allocation fails, and then nothing changes.
     pub fn add(&mut self, node: NodeId) -> Result<(), AllocError>
         ensures added { OnOk result (self.new ≡ with_place node.0 self.old) }
         ensures same { OnErr result (self.new ≡ self.old) }
@@ -83,11 +83,12 @@ impl FreshBoxes {
         Ok(())
     }
 
-    /// Computes every box of the tree under a root element anew, from the root's inputs, and holds it. The nodes in that tree without a box
-    /// hold none afterwards (CSS 2.2, 9.2.4), and a box without a place isn't held. It takes one step for each box. The root may have a
-    /// parent: then the boxes in its subtree are computed. Exact as long as no element of the tree is positioned.
+    /// Recomputes every box of the tree under a root element, from the root's inputs, and stores it. The slots of nodes in
+    /// that tree without a box are empty afterwards (CSS 2.2, 9.2.4), and a box without a slot isn't stored. It takes one
+    /// step for each box. The root may have a parent: then the boxes in its subtree are computed. Exact if no element of
+    /// the tree is positioned.
     ///
-    /// It calls itself once a level: a tree of 2,000 levels was tried, while some 5,000 may use up the stack.
+    /// It recurses once per level: a tree of 2,000 levels was tested, while some 5,000 may overflow the stack.
     pub fn fill<P: Styled, L: Ledger>(
         &mut self,
         tree: &Tree<P>,
@@ -114,7 +115,7 @@ impl FreshBoxes {
     }
 }
 
-// The inputs of a node's children: none where they have no box.
+// Returns the inputs of a node's children, `None` if they have no box.
 fn inputs_within<P: Styled>(tree: &Tree<P>, node: NodeId, inputs: Option<Inputs>) -> Option<Inputs>
     requires { node.0 < length tree.now.nodes }
     ensures value { option_map seen_inputs result ≡ inputs_if_block (layout_tree P.style P.kind tree.now.nodes node.0).item.kind (layout_tree P.style P.kind tree.now.nodes node.0).item (option_map seen_inputs inputs) }
@@ -130,7 +131,7 @@ fn inputs_within<P: Styled>(tree: &Tree<P>, node: NodeId, inputs: Option<Inputs>
     }
 }
 
-// The inputs of a child, from those that its parent hands down: none where it isn't displayed.
+// Returns the inputs of a child, from those that its parent passes down, `None` if it isn't displayed.
 fn inputs_of_child<P: Styled>(
     tree: &Tree<P>,
     node: NodeId,
@@ -153,8 +154,8 @@ fn put(places: &mut [Option<BoxOf>], node: NodeId, found: Option<BoxOf>)
     }
 }
 
-// Computes the box of a node with these inputs, none where there are none, from the heights in it, and holds it. Returns the height of the
-// margin box, 0 without a box.
+// Computes the box of a node from its inputs and the heights in it, and stores it; without inputs it has no box. Returns the
+// height of the margin box, 0 without a box.
 fn hold<P: Styled, L: Ledger>(
     places: &mut [Option<BoxOf>],
     tree: &Tree<P>,
@@ -184,8 +185,8 @@ fn hold<P: Styled, L: Ledger>(
     }
 }
 
-// Holds the boxes of a node with these inputs and of its descendants; none have a box where there are no inputs. Returns the height of the
-// node's margin box, 0 without a box.
+// Computes and stores the boxes of a node with these inputs and of its descendants; without inputs none has a box. Returns
+// the height of the node's margin box, 0 without a box.
 fn fill_below<P: Styled, L: Ledger>(
     places: &mut [Option<BoxOf>],
     tree: &Tree<P>,

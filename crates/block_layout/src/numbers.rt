@@ -1,5 +1,5 @@
-//! Used lengths along one axis, in units of 1/64 pixel (CSS 2.2, 10.2 to 10.7). Lengths of styles and inputs count by their absolute
-//! values, so none is out of range.
+//! Used lengths along one axis, in units of 1/64 pixel (CSS 2.2, 10.2 to 10.7). Of lengths in styles and inputs the absolute
+//! values count, so none is out of range.
 
 ghost use Rattle.std.specs.Prelude.{◌≡◌, ◌≤◌, ◌*◌, ◌/◌, IfSome, option_map, option_and_then};
 ghost use Rattle.px_units.specs.Lengths.{seen_length, seen_inset, cap, clamped, signed_part, inset_against};
@@ -10,7 +10,7 @@ use layout_model::{LARGEST, capped};
 use px_units::Length;
 use style_values::BoxSizing;
 
-// A percentage of a basis, cut to units.
+// Resolves a percentage of a basis, truncated to units.
 fn part(hundredths: u32, basis: u64) -> u64
     ensures { result ≡ cap ((basis * hundredths) / 10000) }
 {
@@ -18,7 +18,7 @@ fn part(hundredths: u32, basis: u64) -> u64
     part.min(u128::from(LARGEST)) as u64
 }
 
-// A length against a basis that may be indefinite: there a percentage gives none, as `auto` does.
+// Resolves a length against a basis that may be indefinite; then a percentage gives `None`, like `auto`.
 pub(crate) fn against(length: Length, basis: Option<u64>) -> Option<u64>
     ensures value { result ≡ against (seen_length length) basis }
     ensures bound { IfSome result (λ units. units ≤ 2147483647) }
@@ -33,7 +33,8 @@ pub(crate) fn against(length: Length, basis: Option<u64>) -> Option<u64>
     }
 }
 
-// An inset against a basis that may be indefinite: there a percentage gives none, as `auto` does (CSS Positioned Layout 3, 3.1).
+// Resolves an inset against a basis that may be indefinite; then a percentage gives `None`, like `auto` (CSS Positioned
+// Layout 3, 3.1).
 pub(crate) fn inset(length: Length, basis: Option<u64>) -> Option<i64>
     ensures { result ≡ inset_against (seen_inset length) basis }
 {
@@ -47,7 +48,7 @@ pub(crate) fn inset(length: Length, basis: Option<u64>) -> Option<i64>
     }
 }
 
-// A percentage of a basis, cut toward zero to units, no farther from 0 than the largest length.
+// Resolves a percentage of a basis, truncated toward zero to units and clamped to the largest length on either side.
 fn signed_part(hundredths: i32, basis: u64) -> i64
     ensures { result ≡ clamped (signed_part hundredths basis) }
 {
@@ -56,7 +57,7 @@ fn signed_part(hundredths: i32, basis: u64) -> i64
     part.max(-largest).min(largest) as i64
 }
 
-// A margin or padding: also a vertical one is relative to the containing width (8.3, 8.4).
+// Resolves a margin or padding: vertical ones are relative to the containing width, too (8.3, 8.4).
 pub(crate) fn used_side(width: u64, length: Length) -> u64
     ensures value { result ≡ used_side width (seen_length length) }
     ensures bound { result ≤ 2147483647 }
@@ -64,7 +65,7 @@ pub(crate) fn used_side(width: u64, length: Length) -> u64
     against(length, Some(width)).unwrap_or(0)
 }
 
-// The content size of a given size.
+// Returns the content size for a specified size.
 fn inner(sizing: BoxSizing, edges: u64, size: u64) -> u64
     ensures { result ≡ inner (seen_box_sizing sizing) edges size }
 {
@@ -92,7 +93,7 @@ fn at_least(least: Option<u64>, size: u64) -> u64
     }
 }
 
-// What the sizes of an axis rest on: `edges` are the borders and paddings of both sides.
+// What the size along an axis depends on: `edges` are the borders and paddings of both sides.
 #[derive(Clone, Copy)]
 pub(crate) struct Axis {
     pub(crate) sizing: BoxSizing,
@@ -122,7 +123,7 @@ impl Axis {
         }
     }
 
-    // The used size; `automatic` is what `auto` gives.
+    // Returns the used size; `automatic` is the value of `auto`.
     pub(crate) fn used(self, automatic: u64) -> u64
         ensures value { result ≡ used_along (seen_box_sizing self.sizing) self.edges self.basis (seen_length self.size) (seen_length self.least) (option_map seen_length self.most) automatic }
         ensures bound { result ≤ 2147483647 }

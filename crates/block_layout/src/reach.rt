@@ -1,4 +1,4 @@
-//! How far a scroll container or a viewport reaches (CSS Overflow 3, 2.2; CSSOM View: scrolling area).
+//! The scrollable overflow of scroll containers and viewports (CSS Overflow 3, 2.2; CSSOM View: scrolling area).
 
 ghost use Rattle.std.specs.Prelude.{◌≡◌, ◌+◌, ◌*◌, ◌^◌, ◌<◌, ◌≤◌, cond, Some, None, IfSome, length, unsigned_abs};
 ghost use Rattle.layout_model.specs.Boxes.{Inputs, kids_of, box_in, border_size, inner_corner};
@@ -67,13 +67,13 @@ impl Extent {
     }
 }
 
-/// How far something reaches: where `view` is None, the scroll container `node`, from the corner of its padding box and
-/// at its own scroll offset 0; else the viewport of that size whose root element is `node`. Each length is at most
-/// 2,147,483,647 units.
+/// Returns the size of the scrollable overflow: if `view` is `None`, of the scroll container `node`, from the corner of its
+/// padding box and at its own scroll offset 0; otherwise of the viewport of that size whose root element is `node`. Each
+/// length is at most 2,147,483,647 units.
 ///
-/// Exact as long as no element of the node's tree is positioned, and the boxes of the node and its descendants are up to date in `boxes`. A
-/// box that clips nothing reaches over its padding box alone. It calls itself once a level: a tree of 2,000 levels was tried, while some
-/// 5,000 may use up the stack.
+/// Exact if no element of the node's tree is positioned, and the boxes of the node and its descendants are up to date in
+/// `boxes`. For a box that doesn't clip it is the size of its padding box. It recurses once per level: a tree of 2,000 levels
+/// was tested, while some 5,000 may overflow the stack.
 pub fn overflow_reach<P: Styled, B: Boxes>(
     tree: &Tree<P>,
     boxes: &B,
@@ -103,7 +103,7 @@ pub fn overflow_reach<P: Styled, B: Boxes>(
     }
 }
 
-// How far a box reaches: over its padding box, and what is in it where it clips that.
+// Returns how far a box reaches: over its padding box, and over its content if it clips that.
 fn container_reach<P: Styled, B: Boxes>(tree: &Tree<P>, boxes: &B, node: NodeId) -> Size
     requires { node.0 < length tree.now.nodes }
     ensures { IsUnpositioned (layout_tree P.style P.kind tree.now.nodes) node.0 → (document : View) (inputs : Inputs) →
@@ -138,7 +138,7 @@ fn view_reach<P: Styled, B: Boxes>(tree: &Tree<P>, boxes: &B, root: NodeId, size
     }
 }
 
-// The box that is held for a node, none where the node isn't displayed.
+// Returns the box held for a node, `None` if the node isn't displayed.
 fn shown_box<P: Styled, B: Boxes>(tree: &Tree<P>, boxes: &B, node: NodeId) -> Option<BoxOf>
     requires { node.0 < length tree.now.nodes }
     ensures value { result ≡ cond (layout_tree P.style P.kind tree.now.nodes node.0).item.style.hidden None (B.held boxes.now node.0) }
@@ -150,7 +150,8 @@ fn shown_box<P: Styled, B: Boxes>(tree: &Tree<P>, boxes: &B, node: NodeId) -> Op
     boxes.box_of(node)
 }
 
-// From the corner of a parent's border box to that of a child's, under so much height of its earlier siblings.
+// Returns the offset from the corner of a parent's border box to that of a child's, `above` being the height of its earlier
+// siblings.
 fn offset(parent: BoxOf, above: u64, child: BoxOf) -> Extent
     requires { above ≤ 2147483647 }
     ensures value { seen_extent result ≡ capped (plus (plus (inner_corner parent) (0, above)) (child.margin.left, child.margin.top)) }
@@ -166,7 +167,7 @@ fn offset(parent: BoxOf, above: u64, child: BoxOf) -> Extent
     whole.capped()
 }
 
-// The farther of a border box's right and bottom edges and of `deeper`, how far its content reaches.
+// Returns the farther of a border box's right and bottom edges and of `deeper`, those of its content.
 fn far_edge(corner: Extent, own: BoxOf, deeper: Extent) -> Extent
     requires across { corner.across ≤ 65536 * 2147483647 }
     requires down { corner.down ≤ 65536 * 2147483647 }
@@ -175,7 +176,7 @@ fn far_edge(corner: Extent, own: BoxOf, deeper: Extent) -> Extent
     corner.plus(own.border_extent()).larger(deeper)
 }
 
-// The first of the children whose boxes count for the reach of what is around: none where the node clips them.
+// Returns the first of the children whose boxes count for the overflow of an outer box, `None` if the node clips them.
 fn first_open<P: Styled>(tree: &Tree<P>, node: NodeId, closed: bool) -> Option<NodeId>
     requires { node.0 < length tree.now.nodes }
     ensures value { result ≡ node_ids (first_of (open_kids closed (kids_of (layout_tree P.style P.kind tree.now.nodes node.0)))) }
@@ -185,8 +186,8 @@ fn first_open<P: Styled>(tree: &Tree<P>, node: NodeId, closed: bool) -> Option<N
     if closed { None } else { first }
 }
 
-// The farthest edges of the border boxes in a node, where the corner of its own border box is as given. `closed` says
-// that none of them counts.
+// Returns the farthest edges of the border boxes in a node, given the corner of its own border box. `closed` means that none
+// of them counts.
 fn far_inside<P: Styled, B: Boxes>(
     tree: &Tree<P>,
     boxes: &B,

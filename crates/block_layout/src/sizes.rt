@@ -1,4 +1,4 @@
-//! Used widths and heights of a box, and what lies around its content.
+//! Used widths and heights of a box, and the edges around its content.
 
 ghost use Rattle.std.specs.Prelude.{◌≡◌, ◌^◌, ◌<◌, ◌≤◌};
 ghost use Rattle.px_units.specs.Lengths.{cap};
@@ -20,7 +20,7 @@ const FRAME_WIDTH: u64 = 19_200;
 
 const FRAME_HEIGHT: u64 = 9_600;
 
-// A length for each side.
+// One length per side.
 #[derive(Clone, Copy, Debug, PartialEq, Eq)]
 pub(crate) struct Edges {
     pub(crate) top: u64,
@@ -29,7 +29,7 @@ pub(crate) struct Edges {
     pub(crate) left: u64,
 }
 
-// What lies around the content of a box.
+// The edges around the content of a box.
 #[derive(Clone, Copy, Debug, PartialEq, Eq)]
 pub(crate) struct Around {
     pub(crate) margin: Edges,
@@ -37,7 +37,7 @@ pub(crate) struct Around {
     pub(crate) padding: Edges,
 }
 
-// Two lengths, to the right and downwards: a size, or a corner from another one.
+// Two lengths, to the right and downwards: a size, or an offset.
 #[derive(Clone, Copy)]
 pub(crate) struct Extent {
     pub(crate) across: u64,
@@ -117,7 +117,8 @@ pub(crate) fn around_content(style: &Style, width: u64) -> Around
     }
 }
 
-// What insets on both sides and the edges around the content leave of a containing block, capped at the largest length.
+// Returns what insets on both sides and the edges around the content leave of a containing block, capped at the largest
+// length.
 fn left_between(containing: u64, one: Option<i64>, other: Option<i64>, around: u64) -> u64
     ensures { result ≡ cap (left_between containing one other around) }
 {
@@ -126,7 +127,7 @@ fn left_between(containing: u64, one: Option<i64>, other: Option<i64>, around: u
     left.max(0).min(i128::from(LARGEST)) as u64
 }
 
-// The insets of both sides of an axis.
+// The insets on both sides of an axis.
 #[derive(Clone, Copy)]
 struct Insets {
     one: Option<i64>,
@@ -153,7 +154,7 @@ fn vertical(style: &Style, inputs: Given) -> Insets
     }
 }
 
-// Whether a box out of flow has its insets on both vertical sides, between which a block of automatic height fills its containing block.
+// Whether a box out of flow has both vertical insets, so that a block of automatic height is stretched between them.
 pub(crate) fn is_stretched(style: &Style, inputs: Given) -> bool
     ensures { result ≡ is_stretched (seen_given inputs) (used_insets (seen_style style.now).inset (seen_given inputs)) }
 {
@@ -161,7 +162,7 @@ pub(crate) fn is_stretched(style: &Style, inputs: Given) -> bool
     !inputs.flow && insets.one.is_some() && insets.other.is_some()
 }
 
-// The width of `auto`, capped at the largest length.
+// Returns the width for `auto`, exact once capped at the largest length.
 fn automatic_width(style: &Style, kind: ItemKind, inputs: Given, around: u64) -> u64
     ensures { cap result ≡ cap (automatic_width (seen_kind kind) (seen_given inputs) (used_insets (seen_style style.now).inset (seen_given inputs)) around) }
 {
@@ -176,7 +177,7 @@ fn automatic_width(style: &Style, kind: ItemKind, inputs: Given, around: u64) ->
     }
 }
 
-// The height of `auto`, capped at the largest length.
+// Returns the height for `auto`, exact once capped at the largest length.
 fn automatic_height(style: &Style, kind: ItemKind, inputs: Given, inside: u64, around: u64) -> u64
     ensures { cap result ≡ cap (automatic_height (seen_kind kind) (seen_given inputs) (used_insets (seen_style style.now).inset (seen_given inputs)) inside around) }
 {
@@ -191,7 +192,7 @@ fn automatic_height(style: &Style, kind: ItemKind, inputs: Given, inside: u64, a
     }
 }
 
-// The used content width (CSS 2.2, 10.3 and 10.4).
+// Returns the used content width (CSS 2.2, 10.3 and 10.4).
 pub(crate) fn used_width(style: &Style, kind: ItemKind, inputs: Given, around: Around) -> u64
     requires { IsAround around }
     ensures value { result ≡ used_width (seen_item style.now kind) (seen_given inputs) (seen_edges around.margin) (seen_edges around.border) (seen_edges around.padding) }
@@ -214,7 +215,7 @@ pub(crate) fn used_width(style: &Style, kind: ItemKind, inputs: Given, around: A
     axis.used(automatic_width(style, kind, inputs, margin.left + edges + margin.right))
 }
 
-// The used content height, where the heights in it add up to `inside` (CSS 2.2, 10.5 to 10.7).
+// Returns the used content height, `inside` being the sum of the heights in it (CSS 2.2, 10.5 to 10.7).
 pub(crate) fn used_height(
     style: &Style,
     kind: ItemKind,

@@ -1,4 +1,4 @@
-//! What layout asks of the elements of a tree.
+//! What the elements of a tree must provide for layout.
 
 ghost use Rattle.std.specs.Prelude.{◌≡◌, ◌<◌, ◌&&◌, not, length};
 ghost use Rattle.layout_model.specs.Boxes.{kids_of, is_passed};
@@ -13,7 +13,7 @@ use crate::ItemKind;
 use element_tree::{NodeId, Tree};
 use style_values::{Display, Overflow, Position, Style};
 
-/// What a tree carries for layout: elements with a style and a kind.
+/// An element with a style and a kind.
 pub trait Styled {
     ghost use Rattle.layout_model.specs.Styles.{Style as StyleModel};
     ghost use Rattle.layout_model.specs.Items.{Kind};
@@ -25,17 +25,17 @@ pub trait Styled {
     /// The kind, as the definitions of layout see it.
     ghost kind: { Self → Kind };
 
-    /// The style of the element. Each property has a value of its own.
+    /// Returns the style of the element; each property has a value.
     fn style(&self) -> &Style
         ensures value { seen_style result.now ≡ style self.now }
         ensures range { IsStyle result.now };
 
-    /// The kind of the element.
+    /// Returns the kind of the element.
     fn kind(&self) -> ItemKind
         ensures { seen_kind result ≡ kind self.now };
 }
 
-/// Whether the element itself has `display: none`. No memory.
+/// Whether the element itself has `display: none`. Doesn't allocate.
 pub fn is_hidden<P: Styled>(tree: &Tree<P>, node: NodeId) -> bool
     requires { node.0 < length tree.now.nodes }
     ensures value { result ≡ (layout_tree P.style P.kind tree.now.nodes node.0).item.style.hidden }
@@ -47,7 +47,8 @@ pub fn is_hidden<P: Styled>(tree: &Tree<P>, node: NodeId) -> bool
     }
 }
 
-// Whether a child adds nothing to the height of its parent: it isn't displayed, or is out of flow. A root element counts as static.
+// Whether a child adds nothing to the height of its parent because it isn't displayed or is out of flow. A root element
+// counts as static.
 pub(crate) fn is_passed<P: Styled>(tree: &Tree<P>, node: NodeId) -> bool
     requires { node.0 < length tree.now.nodes }
     ensures value { result ≡ is_passed (layout_tree P.style P.kind tree.now.nodes node.0) }
@@ -62,7 +63,7 @@ pub(crate) fn is_passed<P: Styled>(tree: &Tree<P>, node: NodeId) -> bool
     }
 }
 
-/// Whether the children of the element may have boxes: those of a block. No memory.
+/// Whether the element is a block, so that its children may have boxes. Doesn't allocate.
 pub fn is_block<P: Styled>(tree: &Tree<P>, node: NodeId) -> bool
     requires { node.0 < length tree.now.nodes }
     ensures value { result ≡ is_block (layout_tree P.style P.kind tree.now.nodes node.0).item.kind }
@@ -74,7 +75,7 @@ pub fn is_block<P: Styled>(tree: &Tree<P>, node: NodeId) -> bool
     }
 }
 
-/// The first of the children that may have boxes. No memory.
+/// Returns the first of the children that may have boxes, `None` if there is none. Doesn't allocate.
 pub fn first_inner<P: Styled>(tree: &Tree<P>, node: NodeId) -> Option<NodeId>
     requires { node.0 < length tree.now.nodes }
     ensures value { result ≡ node_ids (first_of (kids_of (layout_tree P.style P.kind tree.now.nodes node.0))) }
@@ -86,7 +87,7 @@ pub fn first_inner<P: Styled>(tree: &Tree<P>, node: NodeId) -> Option<NodeId>
     }
 }
 
-// Whether content that doesn't fit is cut (CSS Overflow 3, 3.1).
+// Whether overflowing content is clipped (CSS Overflow 3, 3.1).
 fn is_cut(style: &Style) -> bool
     ensures { result ≡ not (is_visible (seen_style style.now).overflow) }
 {
@@ -96,8 +97,8 @@ fn is_cut(style: &Style) -> bool
     }
 }
 
-/// Whether the element's box, where it has one, cuts its content at its padding box (CSS Overflow 3, 3.1). What `overflow` says at a
-/// root element is the viewport's (CSS Overflow 3, 3.3). No memory.
+/// Whether the element's box, if it has one, clips its content at its padding box (CSS Overflow 3, 3.1). The `overflow` of a
+/// root element is propagated to the viewport (CSS Overflow 3, 3.3). Doesn't allocate.
 pub fn is_clipping<P: Styled>(tree: &Tree<P>, node: NodeId) -> bool
     requires { node.0 < length tree.now.nodes }
     ensures value { result ≡ clips (layout_tree P.style P.kind tree.now.nodes node.0) }
@@ -110,7 +111,7 @@ pub fn is_clipping<P: Styled>(tree: &Tree<P>, node: NodeId) -> bool
     }
 }
 
-// Whether content that doesn't fit can be scrolled to (CSS Overflow 3, 3.1).
+// Whether overflowing content can be scrolled to (CSS Overflow 3, 3.1).
 fn is_scrollable(style: &Style) -> bool
     ensures { result ≡ (not (is_visible (seen_style style.now).overflow) && not (is_clip (seen_style style.now).overflow)) }
 {
@@ -120,8 +121,8 @@ fn is_scrollable(style: &Style) -> bool
     }
 }
 
-/// Whether the element's box, where it has one, is a scroll container (CSS Overflow 3, 3.1). A root element's is none, as it doesn't clip.
-/// No memory.
+/// Whether the element's box, if it has one, is a scroll container (CSS Overflow 3, 3.1). False for a root element, which
+/// doesn't clip. Doesn't allocate.
 pub fn is_scroll_container<P: Styled>(tree: &Tree<P>, node: NodeId) -> bool
     requires { node.0 < length tree.now.nodes }
     ensures value { result ≡ is_scroll_container (layout_tree P.style P.kind tree.now.nodes node.0) }

@@ -1,4 +1,5 @@
--- How a box is written, in CSS pixels: fields with a space between, in a line of its own. This form is this project's own choice.
+-- How a box is written: in CSS pixels, as fields separated by spaces, on a line of its own. This form is this project's own
+-- choice.
 use Rattle.std.specs.Prelude.{ℕ, List, [], ◌∷◌, ◌++◌, flat_map, Option, Some, None, codes}
 use Rattle.std.specs.List.{join_with_byte}
 use Rattle.word_model.specs.Numbers.{decimal}
@@ -6,7 +7,7 @@ use Rattle.px_units.specs.declared.Rect.{Rect}
 use Rattle.script_model.specs.TraceText.{rect_fields}
 use Rattle.box_inspector.specs.declared.lines.BoxLine.{BoxLine}
 
--- left, top, width and height of what is seen, in place of them `hidden` where nothing is
+-- left, top, width and height of the visible part, or `hidden` if there is none
 abbrev pub seen_fields : Option Rect → List (List ℕ)
 seen_fields None = codes "hidden" ∷ []
 seen_fields (Some part) = codes "seen" ∷ rect_fields part

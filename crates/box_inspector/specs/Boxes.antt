@@ -1,5 +1,6 @@
--- The boxes of a page: where each lies, and what is seen of it (CSSOM View, 6: getBoundingClientRect; Intersection Observer, 3.2.7:
--- compute the intersection of a target element and the root). That they are listed, and in which order, is this project's own.
+-- The boxes of a page: where each is, and the visible part of it (CSSOM View, 6: getBoundingClientRect; Intersection Observer,
+-- 3.2.7: compute the intersection of a target element and the root). That they are listed, and in which order, is this project's
+-- own.
 use Rattle.std.specs.Prelude.{ℕ, List, [], ◌∷◌, filter, flat_map, map, Option, Some, None, option_map}
 use Rattle.px_units.specs.declared.Rect.{Rect}
 use Rattle.px_units.specs.declared.BoxKind.TheVariants.{Border}
@@ -14,7 +15,7 @@ use Rattle.page_model.specs.PageBoxes as boxes
 use Rattle.page_model.specs.Chains as chains
 use Rattle.box_inspector.specs.declared.lines.BoxLine.{BoxLine}
 
--- an element and its descendants in tree order, none where there is no element
+-- an element and its descendants in tree order, none if there is no element
 abbrev pub elements_below : Tree → Option ℕ → List ℕ
 elements_below tree None = []
 elements_below tree (Some root) = inclusive_descendants tree root
@@ -24,8 +25,8 @@ unfoldable pub boxed_elements : Shown → ℕ → List ℕ
 unfolding inclusive_descendants boxes.has_box
 boxed_elements shown document = filter (has_box shown) (elements_below (shown.tree) (document_at (shown.tree) document).root)
 
--- what is seen of an element within the viewport of the top document, which is the implicit root, in the coordinates of the element's
--- own document
+-- the visible part of an element within the viewport of the top document, which is the implicit root, in the coordinates of the
+-- element's own document
 unfoldable pub seen_part : Shown → ℕ → Option Rect
 unfolding border_rect chains.origin clips_between common_part viewport_rect
 seen_part shown n =

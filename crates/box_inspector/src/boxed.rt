@@ -13,7 +13,7 @@ use page_geometry::Shown;
 use page_tree::Element;
 use std::alloc::{AllocError, Global};
 
-// As many levels of a tree are gone down: more than there can be.
+// The bound on levels of a tree that are visited: more than there can be.
 const LEVELS: u32 = 65536;
 
 // Appends an element if it has a box.
@@ -28,7 +28,7 @@ fn push_boxed(shown: &Shown<'_>, node: NodeId, listed: &mut Vec<NodeId>) -> Resu
     Ok(())
 }
 
-// Appends those of an element and its descendants that have a box, so many levels of them.
+// Appends those of an element and its descendants, down to `high` levels, that have a box.
 fn list_down(
     shown: &Shown<'_>,
     tree: &Tree<Element>,
@@ -51,13 +51,14 @@ fn list_down(
     Ok(())
 }
 
-/// The elements of a document's tree that have a box (CSS 2.2, 9.2.4), in tree order. None where the document isn't shown.
+/// Returns the elements of a document's tree that have a box (CSS 2.2, 9.2.4), in tree order. The list is empty if the
+/// document isn't shown.
 ///
-/// It calls itself once for each level of the tree.
+/// It recurses once per level of the tree.
 ///
 /// # Errors
 ///
-/// Where there is no memory.
+/// If an allocation fails.
 pub fn elements(
     alloc: Global,
     shown: &Shown<'_>,

@@ -1,5 +1,5 @@
-//! The boxes of a page: where each lies, how much of it is seen, and how that is written (CSSOM View, 6: `getBoundingClientRect`;
-//! Intersection Observer, 3.2.7).
+//! Lists the boxes of a page, with the place and the visible part of each, and formats them as text (CSSOM View, 6:
+//! `getBoundingClientRect`; Intersection Observer, 3.2.7).
 //!
 //! Rectangles are in units of 1/64 CSS pixel and in the viewport of the element's document.
 #![tactic(auto)]

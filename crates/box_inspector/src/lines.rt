@@ -1,4 +1,4 @@
-//! What is told of a box.
+//! The record of a box.
 
 use px_units::Rect;
 use text_io::Name;
@@ -8,10 +8,12 @@ use text_io::Name;
 pub struct BoxLine {
     /// The element's name.
     pub name: Name,
-    /// How many elements stand on the path to the root of its tree, both included, so 1 for a root element.
+    /// The depth of the element: the number of elements on the path to the root of its tree, both included, so 1 for a root
+    /// element.
     pub depth: u32,
     /// The border box.
     pub place: Rect,
-    /// What is seen of it: what the clips on its way to the viewport of `top` and that viewport leave. None where they leave nothing.
+    /// Its visible part: what the clips between it and the viewport of `top`, and that viewport, leave. `None` if they leave
+    /// nothing.
     pub seen: Option<Rect>,
 }

@@ -17,7 +17,7 @@ use std::alloc::{AllocError, Global};
 use std::sync::ledger::Ledger;
 use step_count::Steps;
 
-// The box of an element.
+// Returns the record of an element's box.
 fn box_line(page: &Page, shown: &Shown<'_>, node: NodeId) -> BoxLine
     requires shown { shown.now ≡ shown_of page.now.world }
     requires boxed { has_box shown.now node.0 ≡ true }
@@ -68,7 +68,7 @@ fn push_document(
     push_boxes(page, shown, &nodes, lines)
 }
 
-// The boxes of a page, of which none is due.
+// Returns the boxes of a page, of which none is due.
 fn list_boxes(alloc: Global, page: &Page, shown: &Shown<'_>) -> Result<Vec<BoxLine>, AllocError>
     requires { shown.now ≡ shown_of page.now.world }
     ensures list { IfOk result (λ lines. lines.items ≡ box_list page.now.world) }
@@ -82,13 +82,13 @@ fn list_boxes(alloc: Global, page: &Page, shown: &Shown<'_>) -> Result<Vec<BoxLi
     Ok(lines)
 }
 
-/// The boxes of a page as it is now: of each Active document, in the order in which documents are updated, each element with a box
-/// in tree order, with its name and depth, its place and what is seen of it. Boxes that are due are computed before, at most a step for
-/// each. The page is otherwise as it was.
+/// Returns the current boxes of a page: of each Active document, in the order in which documents are updated, each element
+/// with a box in tree order, with its name, depth, place and visible part. Boxes that are due are recomputed first, in at
+/// most one step each. The page is otherwise unchanged.
 ///
 /// # Errors
 ///
-/// Where there is no memory.
+/// If an allocation fails.
 pub fn inspect<L: Ledger>(
     alloc: Global,
     page: &mut Page,

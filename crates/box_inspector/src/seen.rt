@@ -1,4 +1,4 @@
-//! What is seen of a box.
+//! The place and the visible part of a box.
 
 ghost use Rattle.std.specs.Prelude.{◌≡◌, true, IfSome};
 ghost use Rattle.page_model.specs.Shown.{has_box, place_of, size_of};
@@ -17,7 +17,7 @@ use px_units::{Rect, shift};
 /// The viewport of the top document.
 const SCREEN: Container = Container::Document(DocumentId(0));
 
-// A rectangle as it is in the viewport of an element's document.
+// Maps a rectangle to the viewport of an element's document.
 fn in_document(shown: &Shown<'_>, node: NodeId, part: Rect) -> Rect
     requires { IsBounds part }
     ensures value { result ≡ moved_back (origin_of_element shown.now node.0) part }
@@ -27,23 +27,25 @@ fn in_document(shown: &Shown<'_>, node: NodeId, part: Rect) -> Rect
     shift(part, -own.left, -own.top)
 }
 
-/// What the clips on the way from an element to the viewport of `top`, and that viewport, leave of its border box, in the viewport of
-/// the element's document (Intersection Observer, 3.2.7). An edge in common is enough. No memory.
+/// Returns the visible part of an element: what the clips between it and the viewport of `top`, and that viewport, leave of
+/// its border box, in the viewport of the element's document (Intersection Observer, 3.2.7). Touching edges count. Doesn't
+/// allocate.
 ///
-/// Needs that the element has a box. All edges, widths and heights lie between -2^50 and 2^50.
+/// Requires that the element has a box. All edges, widths and heights lie between -2^50 and 2^50.
 pub fn seen_part(shown: &Shown<'_>, node: NodeId) -> Option<Rect>
     requires { has_box shown.now node.0 ≡ true }
     ensures value { result ≡ seen_part shown.now node.0 }
     ensures reach { IfSome result RectReaches }
 {
-    // It tells that chains lead to the viewport of `top`, and how long they are.
+    // Yields that chains lead to the viewport of `top`, and a bound on their length.
     shown.document_count();
     let screen = shown.bounds(SCREEN);
     let part = visible_rect(shown, Container::Element(node), SCREEN, screen)?;
     Some(in_document(shown, node, part))
 }
 
-/// The border box of an element in the viewport of its document (CSS 2.2, 8.1), zeros without a box. No memory.
+/// Returns the border box of an element in the viewport of its document (CSS 2.2, 8.1), zeros without a box. Doesn't
+/// allocate.
 pub fn place(shown: &Shown<'_>, node: NodeId) -> Rect
     ensures value { result ≡ rect_of (place_of shown.now node.0) (size_of shown.now node.0 Border) }
     ensures reach { RectReaches result }

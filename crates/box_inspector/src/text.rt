@@ -11,7 +11,7 @@ use px_units::Rect;
 use std::alloc::{AllocError, Global};
 use trace_text::{push_field, push_number, push_rect};
 
-// What is seen of a box.
+// Appends the visible part of a box.
 fn push_seen(out: &mut Vec<u8>, seen: &Option<Rect>) -> Result<(), AllocError>
     requires { IfSome seen.now RectReaches }
     ensures { OnOk result (out.new.items ≡ with_fields out.old.items (seen_fields seen.now)) }
@@ -35,12 +35,13 @@ fn push_fields(out: &mut Vec<u8>, line: &BoxLine) -> Result<(), AllocError>
     push_seen(out, &line.seen)
 }
 
-/// Appends a box's text, which ends with a line feed: `box`, its element's name and depth, its place as left, top, width and height, and
-/// what is seen of it, all in CSS pixels. Each edge, width and height of the line lies between -2^50 and 2^50 units.
+/// Appends the text of a box, which ends with a line feed: `box`, its element's name and depth, its place as left, top, width
+/// and height, and its visible part, all in CSS pixels. Each edge, width and height of the line lies between -2^50 and 2^50
+/// units.
 ///
 /// # Errors
 ///
-/// Where there is no memory; nothing is appended then.
+/// If an allocation fails; nothing is appended then.
 #[tactic(auto, using(crate::proofs::Texts::box_text_is))]
 pub fn write_box(alloc: Global, line: &BoxLine, into: &mut Vec<u8>) -> Result<(), AllocError>
     requires { BoxReaches line.now }

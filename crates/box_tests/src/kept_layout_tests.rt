@@ -31,7 +31,7 @@ const NARROW: Inputs = Inputs {
     flow: true,
 };
 
-/// Where the random numbers begin: `ROUNDS` is of the edits that follow from it.
+/// Where the random numbers begin, any number: `ROUNDS` is of the edits that follow from it.
 const SEED: u64 = 20;
 
 /// Of each round how many boxes are seen, and the sums of their left and top edges where nothing is scrolled, as `layout.py` of
@@ -51,6 +51,20 @@ const ROUNDS: [(u64, i64, i64); 10] = [
 
 /// How many declarations there are to choose from.
 const CHOICES: u32 = 44;
+
+/// Of so many edits three insert a node, one removes one, and the others set a property.
+const KINDS_OF_EDITS: u32 = 16;
+
+/// Each element of which the number leaves the largest rest by this is an image, and each of the others by the next one a frame: two
+/// primes, so that the tree, and what holds them, has some of both.
+const FROM_IMAGE_TO_IMAGE: u32 = 17;
+
+const FROM_FRAME_TO_FRAME: u32 = 23;
+
+/// The most elements below one another, and the most elements of a page, as `docs/SCRIPT.md` says.
+const MOST_DEPTH: u32 = 256;
+
+const MOST_ELEMENTS: u32 = 20_000;
 
 /// What an element may be told. What would leave few elements with a box, or all of them out of flow, is outweighed by its opposite.
 const DECLARATIONS: [(&str, &str); 44] = [
@@ -124,7 +138,7 @@ impl Sums {
     }
 }
 
-/// Numbers by a linear congruence.
+/// Numbers by a linear congruence, with the factor and the summand of MMIX.
 #[derive(Drop)]
 struct Random {
     state: u64,
@@ -143,14 +157,14 @@ impl Random {
     }
 }
 
-// Mostly blocks: each 17th element is an image, and each 23rd of the others a frame.
+// Mostly blocks.
 fn kind_of(number: u32) -> ItemKind {
-    if number % 17 == 16 {
+    if number % FROM_IMAGE_TO_IMAGE == FROM_IMAGE_TO_IMAGE - 1 {
         ItemKind::Image(Size {
             width: 640,
             height: 320,
         })
-    } else if number % 23 == 22 {
+    } else if number % FROM_FRAME_TO_FRAME == FROM_FRAME_TO_FRAME - 1 {
         ItemKind::Frame
     } else {
         ItemKind::Block
@@ -225,7 +239,7 @@ fn edit(rt: &impl Abort, random: &mut Random, tree: &mut Tree<Element>, kept: &m
     let node = NodeId(random.below(ELEMENTS));
     let other = NodeId(random.below(ELEMENTS));
     assert!(rt; tree.holds(node) && tree.holds(other));
-    match random.below(16) {
+    match random.below(KINDS_OF_EDITS) {
         0 | 1 | 2 if node != ROOT => place(rt, tree, kept, node, other, random.below(2) == 0),
         3 => {
             mark_parent(tree, kept, node);
@@ -341,7 +355,7 @@ fn sum_round(
 #[test]
 fn places_are_those_of_the_reference(rt: HostRuntime) -> Result<(), Fail> {
     let mut random = Random { state: SEED };
-    let mut tree = Tree::new(rt.alloc(), ELEMENTS, 256);
+    let mut tree = Tree::new(rt.alloc(), ELEMENTS, MOST_DEPTH);
     let mut kept = Kept::new(rt.alloc());
     kept.add(NodeId(ELEMENTS - 1))?;
     plant(&rt, &mut random, &mut tree);
@@ -376,19 +390,19 @@ fn see_place(rt: &impl Abort, tree: &Tree<Element>, kept: &Kept, node: NodeId, w
     assert_eq!(rt; (place.left, place.top), wanted);
 }
 
-// A root element with 19,999 lines.
+// A root element, and lines of one pixel for all other elements.
 fn add_lines(rt: &impl Abort, tree: &mut Tree<Element>) {
     add(rt, tree, ROOT, "padding:1px");
-    for _ in 1..20_000u32 {
+    for _ in 1..MOST_ELEMENTS {
         add(rt, tree, ROOT, "height:1px");
     }
 }
 
 #[test]
 fn many_elements_are_laid_out(rt: HostRuntime) -> Result<(), Fail> {
-    let mut wide = Tree::new(rt.alloc(), 20_000, 256);
+    let mut wide = Tree::new(rt.alloc(), MOST_ELEMENTS, MOST_DEPTH);
     let mut kept = Kept::new(rt.alloc());
-    let last = NodeId(19_999);
+    let last = NodeId(MOST_ELEMENTS - 1);
     kept.add(last)?;
     add_lines(&rt, &mut wide);
     lay_out(&rt, &mut kept, &wide, SCREEN);
@@ -397,18 +411,18 @@ fn many_elements_are_laid_out(rt: HostRuntime) -> Result<(), Fail> {
     Ok(())
 }
 
-// A chain of 256 elements.
+// A chain of elements.
 fn add_chain(rt: &impl Abort, tree: &mut Tree<Element>) {
-    for number in 0..256u32 {
+    for number in 0..MOST_DEPTH {
         add(rt, tree, NodeId(number.saturating_sub(1)), "padding:1px");
     }
 }
 
 #[test]
 fn deep_trees_are_laid_out(rt: HostRuntime) -> Result<(), Fail> {
-    let mut deep = Tree::new(rt.alloc(), 256, 256);
+    let mut deep = Tree::new(rt.alloc(), MOST_DEPTH, MOST_DEPTH);
     let mut kept = Kept::new(rt.alloc());
-    let inmost = NodeId(255);
+    let inmost = NodeId(MOST_DEPTH - 1);
     kept.add(inmost)?;
     add_chain(&rt, &mut deep);
     lay_out(&rt, &mut kept, &deep, SCREEN);

@@ -2,14 +2,17 @@
 
 use layout_model::capped;
 
+/// The largest length in 1/64 pixel, as `docs/DECISIONS.md` says.
+const LARGEST: u64 = 2_147_483_647;
+
 #[test]
 fn lengths_are_cut_to_the_largest(rt: HostRuntime) {
     let rows = [
         (0, 0),
         (64, 64),
-        (2147483647, 2147483647),
-        (2147483648, 2147483647),
-        (u64::MAX, 2147483647),
+        (LARGEST, LARGEST),
+        (LARGEST + 1, LARGEST),
+        (u64::MAX, LARGEST),
     ];
     for (units, wanted) in rows {
         assert_eq!(rt; capped(units), wanted);

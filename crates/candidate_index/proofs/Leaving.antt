@@ -5,6 +5,7 @@ use Rattle.std.specs.Int.{int_min, int_max}
 use Rattle.std.proofs.lemmas.Int.{ints}
 use Rattle.px_units.specs.declared.Rect.{Rect}
 use Rattle.px_units.specs.Rects.{has_points, overlap, meeting}
+use Rattle.px_units.proofs.Meeting.{same_overlap}
 use Rattle.page_model.specs.Chains.{common_part}
 use Rattle.page_model.specs.World.{IntersectionObserver}
 use Rattle.clip_chain.proofs.Parts.{none_left}
@@ -23,12 +24,6 @@ greatest_of a b c = grind (arith, ints)
 least_of : (a b c : ℤ) → int_min (int_min a b) c ≡ int_min a (int_min b c)
 least_of a b c = grind (arith, ints)
 
-greatest_again : (a b : ℤ) → int_max a b ≡ int_max b a
-greatest_again a b = grind (arith, ints)
-
-least_again : (a b : ℤ) → int_min a b ≡ int_min b a
-least_again a b = grind (arith, ints)
-
 rect_by : (l l' t t' r r' b b' : ℤ) → l ≡ l' → t ≡ t' → r ≡ r' → b ≡ b' → ◌≡◌ {A = Rect} (record { left = l; top = t; right = r; bottom = b }) (record { left = l'; top = t'; right = r'; bottom = b' })
 rect_by l l' t t' r r' b b' one two three four = λ i. record { left = one i; top = two i; right = three i; bottom = four i }
 
@@ -37,12 +32,6 @@ together a b c =
     rect_by _ _ _ _ _ _ _ _
     (greatest_of a.left b.left c.left) (greatest_of a.top b.top c.top)
     (least_of a.right b.right c.right) (least_of a.bottom b.bottom c.bottom)
-
-turned : (a b : Rect) → overlap a b ≡ overlap b a
-turned a b =
-    rect_by _ _ _ _ _ _ _ _
-    (greatest_again a.left b.left) (greatest_again a.top b.top)
-    (least_again a.right b.right) (least_again a.bottom b.bottom)
 
 all_together : (x first : Rect) (others : List Rect) → fold overlap (overlap x first) others ≡ overlap x (fold overlap first others)
 all_together x first [] = refl
@@ -55,7 +44,7 @@ with_clips bounds limits first others =
 
 other_way : (x p : Rect) → common_part x (p ∷ []) ≡ common_part p (x ∷ [])
 unfolding common_part
-other_way x p = ap (λ (r : Rect). cond (has_points r) (Some r) None) (turned x p)
+other_way x p = ap (λ (r : Rect). cond (has_points r) (Some r) None) (same_overlap x p)
 
 two_parts : (x p : Rect) → meeting x p ≡ common_part x (p ∷ [])
 unfolding common_part

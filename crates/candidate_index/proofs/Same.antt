@@ -4,13 +4,13 @@ use Rattle.std.specs.Prelude.{IsSome, IfSome}
 use Rattle.std.specs.FinMap.{FinMap}
 use Rattle.std.specs.Ordering.{nat_cmp, int_eq}
 use Rattle.std.proofs.lemmas.Bool.Decides.{Decides-int_eq}
+use Rattle.std.proofs.lemmas.Bool.{and_parts}
 use Rattle.px_units.specs.declared.Rect.{Rect}
 use Rattle.page_model.specs.World.{Root, IntersectionObservers}
 use Rattle.element_tree.specs.declared.container.Container.{Container}
 use Rattle.clip_chain.specs.Scenes.{Scene}
 use Rattle.kept_clips.specs.declared.clip.Clip.{Clip}
 use Rattle.kept_clips.specs.declared.clip.Clip.TheVariants as clips
-use Rattle.kept_clips.proofs.Testing.{both}
 use Rattle.intersection_observer.specs.Seen.{seen_finding}
 use Rattle.candidate_index.specs.declared.scene.Standing.{Standing}
 use Rattle.candidate_index.specs.declared.basis.Sight.{Sight}
@@ -34,9 +34,9 @@ own_edge a = (Decides-int_eq a a).1 refl
 
 same_rect : (r s : Rect) → is_same_rect r s ≡ true → r ≡ s
 same_rect r s e =
-    let three = both ((int_eq r.left s.left && int_eq r.top s.top) && int_eq r.right s.right) (int_eq r.bottom s.bottom) e in
-    let two = both (int_eq r.left s.left && int_eq r.top s.top) (int_eq r.right s.right) three.0 in
-    let one = both (int_eq r.left s.left) (int_eq r.top s.top) two.0 in
+    let three = and_parts ((int_eq r.left s.left && int_eq r.top s.top) && int_eq r.right s.right) (int_eq r.bottom s.bottom) e in
+    let two = and_parts (int_eq r.left s.left && int_eq r.top s.top) (int_eq r.right s.right) three.0 in
+    let one = and_parts (int_eq r.left s.left) (int_eq r.top s.top) two.0 in
     let left = same_edge r.left s.left one.0 in
     let top = same_edge r.top s.top one.1 in
     let right = same_edge r.right s.right two.1 in
@@ -75,7 +75,7 @@ same_sight sights.NoBox (sights.Chained s d) e = never e
 same_sight (sights.Chained r c) sights.Apart e = never e
 same_sight (sights.Chained r c) sights.NoBox e = never e
 same_sight (sights.Chained r c) (sights.Chained s d) e =
-    let parts = both (is_same_rect r s) (is_same_clip c d) e in
+    let parts = and_parts (is_same_rect r s) (is_same_clip c d) e in
     let bounds = same_rect r s parts.0 in
     let clip = same_clip c d parts.1 in
     λ i. sights.Chained (bounds i) (clip i)
@@ -87,7 +87,7 @@ own_sight (sights.Chained r c) = ap (λ b. b && is_same_clip c c) (own_rect r) �
 
 same_basis : (a b : Basis) → is_same_basis a b ≡ true → a ≡ b
 same_basis a b e =
-    let parts = both (is_same_rect a.limits b.limits) (is_same_sight a.sight b.sight) e in
+    let parts = and_parts (is_same_rect a.limits b.limits) (is_same_sight a.sight b.sight) e in
     let limits = same_rect a.limits b.limits parts.0 in
     let sight = same_sight a.sight b.sight parts.1 in
     λ i. record { limits = limits i; sight = sight i }

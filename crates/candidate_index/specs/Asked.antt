@@ -1,4 +1,4 @@
--- What becomes of the clips once those of registrations were asked for, and the steps that this takes.
+-- The clips after those of registrations were requested, and the steps that this takes.
 use Rattle.std.specs.Prelude.{ℕ, ◌+◌, cond, List, [], ◌∷◌, length}
 use Rattle.page_model.specs.World.{Root, IntersectionObservers}
 use Rattle.element_tree.specs.declared.container.Container.{Container}
@@ -14,11 +14,11 @@ use Rattle.candidate_index.specs.Registrations.{standing_for}
 abbrev pub asked : Scene → List Container → ℕ → HeldClips → HeldClips
 asked scene between serial clips = cond (is_current clips serial between) clips (with_clip serial (clip_between scene between) clips)
 
--- a step for each spot strictly between where the clip is computed
+-- one step for each spot strictly between if the clip is computed, else none
 abbrev pub steps_asked : List Container → ℕ → HeldClips → ℕ
 steps_asked between serial clips = cond (is_current clips serial between) 0 (length between)
 
--- only where the chain leads to the root is a clip asked for
+-- a clip is requested only for a registration whose chain leads to the root
 
 abbrev pub asked_if : Standing → Scene → List Container → ℕ → HeldClips → HeldClips
 asked_if Apart scene between serial clips = clips

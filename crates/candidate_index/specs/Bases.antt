@@ -1,4 +1,4 @@
--- What findings are found from, and which differ.
+-- Equality of bases. A basis is what a finding is computed from.
 use Rattle.std.specs.Prelude.{Bool, true, false, ◌&&◌}
 use Rattle.std.specs.Ordering.{int_eq}
 use Rattle.px_units.specs.declared.Rect.{Rect}

@@ -1,5 +1,5 @@
--- What is found of a target (Intersection Observer, 3.2.10), in the coordinates of the top document's viewport: from the
--- containers, clips and boxes as they are, and from what of these was kept.
+-- What is found of a target (Intersection Observer, 3.2.10), in the coordinates of the top document's viewport: from the current
+-- containers, clips and boxes, and from what was kept of these.
 use Rattle.std.specs.Prelude.{ℕ, List, Option, Some, None, option_and_then, unwrap_or, is_some}
 use Rattle.px_units.specs.declared.Rect.{Rect}
 use Rattle.px_units.specs.Rects.{meeting}
@@ -19,11 +19,11 @@ use Rattle.candidate_index.specs.declared.basis.Sight.{Sight}
 use Rattle.candidate_index.specs.declared.basis.Sight.TheVariants as sights
 use Rattle.candidate_index.specs.declared.basis.Basis.{Basis}
 
--- the root rectangle, moved by the margins
+-- the root intersection rectangle, with the root margin applied
 abbrev pub limits_of : Scene → IntersectionObserver → Rect
 limits_of scene observer = moved_out observer.margins (root_bounds scene (spot_of_root observer.root))
 
--- what is found of a target with these bounds, of which this is seen
+-- what is found of a target with these bounds, of which `cut` is visible
 abbrev pub seen : List ℕ → Rect → Option Rect → Rect → Finding
 seen thresholds bounds cut limits =
     let ratio = ratio_of bounds cut in
@@ -37,7 +37,7 @@ seen thresholds bounds cut limits =
       cut = unwrap_or cut zero_rect;
     }
 
--- what an observer finds of a target, by how it stands to the root and the spots strictly between
+-- what an observer finds of a target, given its relation to the root and the spots strictly between
 abbrev pub finding_over : Scene → Standing → IntersectionObserver → ℕ → List Container → Finding
 finding_over scene standings.Apart observer target between = unseen 0 (limits_of scene observer)
 finding_over scene standings.NoBox observer target between = unseen (index_of observer.thresholds 0 1) (limits_of scene observer)
@@ -48,7 +48,7 @@ finding_over scene standings.Chained observer target between =
     (part_between scene (element_spot target) between (limits_of scene observer))
     (limits_of scene observer)
 
--- what it is found from
+-- what a finding is computed from
 
 abbrev pub sight_over : Scene → Standing → ℕ → List Container → Sight
 sight_over scene standings.Apart target between = sights.Apart
@@ -58,13 +58,13 @@ sight_over scene standings.Chained target between = sights.Chained (scene.bounds
 abbrev pub basis_over : Scene → Standing → IntersectionObserver → ℕ → List Container → Basis
 basis_over scene standing observer target between = record { limits = limits_of scene observer; sight = sight_over scene standing target between }
 
--- what a clip leaves of a rectangle
+-- the part of a rectangle that is within a clip
 abbrev pub left_by : Clip → Rect → Option Rect
 left_by clips.Whole within = Some within
 left_by (clips.Cut part) within = meeting within part
 left_by clips.Nothing within = None
 
--- what limits and a clip leave of a box
+-- the part of a box that is within limits and within a clip
 abbrev pub cut_to : Rect → Rect → Clip → Option Rect
 cut_to bounds limits clip = option_and_then (left_by clip) (meeting bounds limits)
 
@@ -73,6 +73,6 @@ found_by thresholds limits sights.Apart = unseen 0 limits
 found_by thresholds limits sights.NoBox = unseen (index_of thresholds 0 1) limits
 found_by thresholds limits (sights.Chained bounds clip) = seen thresholds bounds (cut_to bounds limits clip) limits
 
--- what is found from what was kept
+-- what is found from a basis that was kept
 abbrev pub found_from : List ℕ → Basis → Finding
 found_from thresholds basis = found_by thresholds (basis.limits) (basis.sight)

@@ -13,26 +13,26 @@ use Rattle.candidate_index.specs.Findings.{found_from}
 use Rattle.candidate_index.specs.Registrations.{observer_of, basis_for}
 use Rattle.intersection_observer.specs.Seen.{seen_finding}
 
--- what is kept of the last computation, none where there was none
+-- what is kept of the last computation, none if there was none
 abbrev pub kept_of : FinMap nat_cmp (Option Kept) → ℕ → Option Kept
 kept_of it serial = unwrap_or (get it serial) None
 
 abbrev pub IsAdded : FinMap nat_cmp (Option Kept) → ℕ → Type 0
 IsAdded it serial = IsTrue (contains_key it serial)
 
--- never computed, or found from something else
+-- never computed, or computed from another basis
 abbrev pub is_stale : Option Kept → Basis → Bool
 is_stale None now = true
 is_stale (Some kept) now = not (is_same_basis kept.basis now)
 
--- whether the registration of a serial number is stale now, by the spots between its target and its root
+-- whether the registration with a serial number is stale now, given the spots between its target and its root
 abbrev pub is_stale_now : Scene → (Root → ℕ → Standing) → IntersectionObservers → (ℕ → List Container) → FinMap nat_cmp (Option Kept) → ℕ → Bool
 is_stale_now scene standings it between kept serial = is_stale (kept_of kept serial) (basis_for scene standings it serial (between serial))
 
--- what is kept of the last computation was found from its basis by these thresholds
+-- the finding that is kept, if any, follows from its basis with these thresholds
 abbrev pub IsFound : List ℕ → Option Kept → Type 0
 IsFound thresholds kept = IfSome kept (λ (it : Kept). seen_finding it.finding ≡ found_from thresholds it.basis)
 
--- so it is of each registration, by its observer's thresholds
+-- the same for each registration, with its observer's thresholds
 pub record AreFound (watchers : IntersectionObservers) (kept : FinMap nat_cmp (Option Kept)) : Type 0 where
   pub found : (serial : ℕ) → IsFound (observer_of watchers serial).thresholds (kept_of kept serial)

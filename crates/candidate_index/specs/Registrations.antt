@@ -1,4 +1,4 @@
--- Registrations by their serial numbers: what is found of their targets, and what is asked of whoever holds their clips.
+-- Registrations by their serial numbers: what is found of their targets, and what is required of the clips held for them.
 use Rattle.std.specs.Prelude.{◌≡◌, ℕ, false, List, map, unwrap_or}
 use Rattle.page_model.specs.World.{Root, Finding, Registration, IntersectionObserver, IntersectionObservers}
 use Rattle.page_model.specs.Lookups.{intersection_observer_at}
@@ -19,7 +19,7 @@ use Rattle.candidate_index.specs.Findings.{finding_over, basis_over}
 abbrev pub serials_at : IntersectionObservers → ℕ → List ℕ
 serials_at it watcher = map (λ (registration : Registration). registration.serial) (registrations_at it watcher)
 
--- the observer and the target of a registration that stands
+-- the observer and the target of a registration that exists
 
 abbrev pub place_of : IntersectionObservers → ℕ → Place
 place_of it serial = unwrap_or (standing_of serial it) (record { watcher = 0; target = 0 })
@@ -30,7 +30,7 @@ observer_of it serial = intersection_observer_at it (place_of it serial).watcher
 abbrev pub target_of : IntersectionObservers → ℕ → ℕ
 target_of it serial = (place_of it serial).target
 
--- by how targets stand to roots
+-- given the relation of each target to each root
 
 abbrev pub standing_for : (Root → ℕ → Standing) → IntersectionObservers → ℕ → Standing
 standing_for standings it serial = standings (observer_of it serial).root (target_of it serial)
@@ -46,14 +46,14 @@ IfChained Apart fact = Unit {0}
 IfChained NoBox fact = Unit {0}
 IfChained Chained fact = fact
 
--- the spots strictly between the target and the root, for a registration whose chain leads to the root
+-- `between` gives the spots strictly between the target and the root, for a registration whose chain leads to the root
 abbrev pub IsBetween : Scene → (Root → ℕ → Standing) → IntersectionObservers → (ℕ → List Container) → ℕ → Type 0
 IsBetween scene standings it between serial =
     IfChained (standing_for standings it serial)
     (Leads scene (element_spot (target_of it serial)) (between serial) (spot_of_root (observer_of it serial).root))
 
--- a pair is held under a serial number for a root and a target, the root is above the target, and a clip that is handed out as
--- it is held is exact
+-- a pair with this root and this target is held under a serial number, the root is on the chain above the target, and the clip is
+-- exact if it is still valid
 pub record HasClip (scene : Scene) (clips : HeldClips) (serial : ℕ) (root : Root) (target : ℕ) : Type 0 where
   pub held : IsHeld clips serial
   pub root_held : (pair_of clips serial).root ≡ spot_of_root root
@@ -66,6 +66,6 @@ abbrev pub IsReady : Scene → (Root → ℕ → Standing) → IntersectionObser
 IsReady scene standings it clips serial =
     IfChained (standing_for standings it serial) (HasClip scene clips serial (observer_of it serial).root (target_of it serial))
 
--- scroll margins didn't move the clip of its observer's root
+-- scroll margins don't move the clip of a registration's root
 abbrev pub IsRootUnmoved : Scene → IntersectionObservers → ℕ → Type 0
 IsRootUnmoved scene it serial = scene.moved (spot_of_root (observer_of it serial).root) ≡ false

@@ -1,5 +1,6 @@
--- What is found over a page's containers, clips and boxes, told as a world tells it: the target's box and what is seen of it in the
--- coordinates of the target's document, the root rectangle in those of the root's. What isn't there isn't moved.
+-- Findings, translated to the coordinates of a world's findings: the target's box and the visible part of it to those of the
+-- target's document, and the root rectangle to those of the root's document. A zero rectangle that stands for a missing one isn't
+-- translated.
 use Rattle.std.specs.Prelude.{ℕ, ◌≤◌, Bool, true, false, List, length}
 use Rattle.px_units.specs.declared.Point.{Point}
 use Rattle.px_units.specs.declared.Rect.{Rect}
@@ -34,6 +35,6 @@ told shown observer target relation it = record it {
   cut = told_cut (it.meets) (origin_of_element shown target) (it.cut);
 }
 
--- a chain from a target to a root, no longer than a world's definitions look along
+-- a chain from a target to a root that is no longer than the definitions of a world follow one
 abbrev pub IsChain : Shown → Root → ℕ → List Container → Type 0
 IsChain shown root target between = Leads (scene_of shown) (element_spot target) between (spot_of_root root) × (length between ≤ most_containers)

@@ -1,4 +1,4 @@
-//! What a finding is found from.
+//! The inputs of a finding.
 
 ghost use Rattle.std.specs.Prelude.{◌≡◌};
 ghost use Rattle.candidate_index.specs.Bases.{is_same_rect, is_same_clip, is_same_sight, is_same_basis};
@@ -6,8 +6,8 @@ ghost use Rattle.candidate_index.specs.Bases.{is_same_rect, is_same_clip, is_sam
 use kept_clips::Clip;
 use px_units::Rect;
 
-/// What is seen from: how the target stands to the root, and where the chain leads to the root the target's box and the common
-/// part of the clips strictly between.
+/// How the target relates to the root, and, if the chain leads to the root, the target's box and the intersection of the
+/// clips strictly between.
 #[derive(Clone, Copy, Debug, PartialEq, Eq)]
 pub enum Sight {
     Apart,
@@ -15,10 +15,10 @@ pub enum Sight {
     Chained { bounds: Rect, clip: Clip },
 }
 
-/// All that a finding is found from, beside the thresholds, which stay as they are.
+/// All inputs of a finding except the thresholds, which never change.
 #[derive(Clone, Copy, Debug, PartialEq, Eq)]
 pub struct Basis {
-    /// The root rectangle, moved by the margins.
+    /// The root rectangle with the root margins applied.
     pub limits: Rect,
     pub sight: Sight,
 }

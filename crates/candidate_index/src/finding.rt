@@ -1,4 +1,4 @@
-//! What is found of a target, and from what.
+//! The finding of a target, and its inputs.
 
 ghost use Rattle.std.specs.Prelude.{◌≡◌, ◌+◌, ℕ, List, false, IfSome};
 ghost use Rattle.page_model.specs.World.{Root as ModelRoot};
@@ -36,7 +36,7 @@ const NO_RECT: Rect = Rect {
     bottom: 0,
 };
 
-/// The spot of a root (Intersection Observer, 2.2): the implicit one is the viewport of the top document.
+/// Returns the spot of a root (Intersection Observer, 2.2); that of the implicit root is the viewport of the top document.
 pub fn spot_of_root(root: Root) -> Container
     ensures { result ≡ spot_of_root (seen_root root) }
 {
@@ -47,7 +47,7 @@ pub fn spot_of_root(root: Root) -> Container
     }
 }
 
-// The root rectangle, moved by the margins.
+// Returns the root rectangle with the root margins applied.
 fn limits_of<G: Geometry>(scene: &G, root: Root, margins: &Margins) -> Rect
     requires { (G.scene scene.now).moved (spot_of_root (seen_root root)) ≡ false }
     ensures value { result ≡ moved_out margins.now (root_bounds (G.scene scene.now) (spot_of_root (seen_root root))) }
@@ -56,7 +56,7 @@ fn limits_of<G: Geometry>(scene: &G, root: Root, margins: &Margins) -> Rect
     margins.dilate(root_rect(scene, spot_of_root(root)))
 }
 
-// From what a target is seen now.
+// Returns how a target currently relates to the root.
 fn sight_of<S: Scene, L: Ledger>(
     scene: &S,
     clips: &mut Clips,
@@ -86,7 +86,7 @@ fn sight_of<S: Scene, L: Ledger>(
     }
 }
 
-// What a registration's target is found from now.
+// Returns the current inputs of a registration's finding.
 pub(crate) fn basis_of<S: Scene, L: Ledger>(
     scene: &S,
     clips: &mut Clips,
@@ -117,7 +117,7 @@ pub(crate) fn basis_of<S: Scene, L: Ledger>(
     }
 }
 
-// What limits and a clip leave of a box.
+// Returns what limits and a clip leave of a box.
 fn cut_to(bounds: Rect, limits: Rect, clip: Clip) -> Option<Rect>
     requires { IsBounds bounds }
     ensures value { result ≡ cut_to bounds limits clip }
@@ -132,7 +132,7 @@ fn cut_to(bounds: Rect, limits: Rect, clip: Clip) -> Option<Rect>
     }
 }
 
-// What is found of a target, by the part of its box that is seen.
+// Returns the finding of a target from the visible part of its box.
 fn seen(thresholds: &Thresholds, bounds: Rect, cut: Option<Rect>, limits: Rect) -> Finding
     requires bounds { IsBounds bounds }
     requires inside { IfSome cut (LiesIn bounds) }
@@ -153,7 +153,7 @@ fn seen(thresholds: &Thresholds, bounds: Rect, cut: Option<Rect>, limits: Rect) 
     }
 }
 
-// What is found of a target that isn't in the root, or has no box.
+// Returns the finding of a target that isn't in the root or has no box.
 fn unseen(index: u32, limits: Rect) -> Finding
     ensures value { seen_finding result ≡ unseen index limits }
     ensures bounds { IsBounds result.target }
@@ -170,7 +170,7 @@ fn unseen(index: u32, limits: Rect) -> Finding
     }
 }
 
-// What is found from a basis, by the thresholds.
+// Computes the finding from its inputs and the thresholds.
 pub(crate) fn find(thresholds: &Thresholds, basis: &Basis) -> Finding
     requires { HasBounds basis.now }
     ensures value { seen_finding result ≡ found_from thresholds.now basis.now }

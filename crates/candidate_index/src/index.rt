@@ -1,4 +1,4 @@
-//! What is kept of each registration.
+//! The cached finding of each registration.
 
 ghost use Rattle.std.specs.Prelude.{◌≡◌, ◌+◌, ◌<◌, ◌≤◌, ℕ, List, true, [], ◌∷◌, ◌++◌, length, filter, None, vec_len, vec_capacity, IfOk, IsOk, OnOk, OnErr};
 ghost use Rattle.std.specs.List.{All};
@@ -25,21 +25,22 @@ use std::marker::Model;
 use std::sync::ledger::Ledger;
 use step_count::Steps;
 
-/// What is kept of the last computation of a registration.
+/// The result of the last computation for a registration.
 #[derive(Clone, Copy, Debug)]
 pub struct Kept {
-    /// What it was found from.
+    /// The inputs of the finding.
     pub basis: Basis,
     pub finding: Finding,
 }
 
-/// For each registration that was added what was found of it last and from what, or nothing where it counts as never computed.
-/// A clause sees this by serial numbers.
+/// For each added registration the last finding and its inputs, or nothing if it counts as never computed. Contracts see this
+/// as a map from serial numbers.
 ///
 /// The pair of a registration in `Clips` has the registration's serial number. Its two spots are that of its observer's root,
 /// which for the implicit root is the `View` of the top document, and that of its target.
 ///
-/// What is kept of a registration was found from its basis by its observer's thresholds (`AreFound`), which each call keeps so.
+/// The stored finding of a registration is the one that its basis and its observer's thresholds give (`AreFound`); each call
+/// maintains this.
 #[derive(Drop)]
 pub struct Index {
     alloc: Global,
@@ -62,7 +63,7 @@ impl Model for Index {
 }
 
 impl Index {
-    /// No registrations; it takes no memory yet.
+    /// Creates an empty cache; allocates nothing.
     pub fn new(alloc: Global) -> Index
         ensures empty { result ≡ finite.empty }
         ensures found { (watchers : IntersectionObservers) → AreFound watchers result }
@@ -80,15 +81,15 @@ impl Index {
         self.kept.get(registration.0).is_some()
     }
 
-    /// What is kept of a registration, None where it counts as never computed.
+    /// Returns what is stored for a registration, `None` if it counts as never computed.
     pub fn kept(&self, registration: RegistrationId) -> Option<Kept>
         ensures { result ≡ kept_of self.now registration.0 }
     {
         self.kept.get(registration.0)?
     }
 
-    /// Adds a registration, which counts as never computed. Refused only for want of memory, and never where the registration was
-    /// added; nothing changes then.
+    /// Adds a registration, which counts as never computed. Fails only if an allocation fails, never if the registration was
+    /// already added; nothing changes then.
     pub fn add(&mut self, registration: RegistrationId) -> Result<(), AllocError>
         ensures added { OnOk result (self.new ≡ finite.insert self.old registration.0 None) }
         ensures same { OnErr result (self.new ≡ self.old) }
@@ -98,7 +99,7 @@ impl Index {
         self.kept.insert(registration.0, None)
     }
 
-    /// Forgets a registration. No memory.
+    /// Removes a registration. Doesn't allocate.
     pub fn forget(&mut self, registration: RegistrationId)
         ensures forgotten { self.new ≡ finite.remove self.old registration.0 }
         ensures found { (watchers : IntersectionObservers) → AreFound watchers self.old → AreFound watchers self.new }
@@ -106,7 +107,7 @@ impl Index {
         self.kept.remove(registration.0);
     }
 
-    /// Lets a registration count as never computed. No memory.
+    /// Discards the finding of a registration, which then counts as never computed. Doesn't allocate.
     pub fn expire(&mut self, registration: RegistrationId)
         requires { IsAdded self.old registration.0 }
         ensures expired { self.new ≡ finite.insert self.old registration.0 None }
@@ -115,14 +116,14 @@ impl Index {
         self.kept.insert(registration.0, None).unwrap();
     }
 
-    /// The registrations of an observer that are stale, in order: those never computed, and those of which something that they
-    /// were found from differs now, which is how the target stands to the root, the root rectangle moved by the margins, and
-    /// where the chain leads to the root the target's box or the common part of the clips strictly between.
+    /// Returns the stale registrations of an observer, in order: those never computed, and those with a changed input, which
+    /// is the relation of the target to the root, the root rectangle with the root margins applied, or, if the chain leads to
+    /// the root, the target's box or the intersection of the clips strictly between.
     ///
     /// A registration that wasn't added counts as never computed.
     ///
-    /// It takes the steps of `clip_of` for those whose chain leads to the root, and no other. Refused only where there is no
-    /// memory, and then nothing changes.
+    /// It takes the steps of `clip_of` for those whose chain leads to the root, and no others. Fails only if an allocation
+    /// fails, and then nothing changes.
     pub fn stale_registrations<S: Scene, L: Ledger>(
         &self,
         scene: &S,
@@ -154,7 +155,7 @@ impl Index {
         Ok(stale)
     }
 
-    // Pushes a registration onto a list that has room for it, if it is stale.
+    // Appends a registration to a list that has capacity for it, if it is stale.
     fn look<S: Scene, L: Ledger>(
         &self,
         scene: &S,
@@ -185,7 +186,7 @@ impl Index {
         }
     }
 
-    // Whether a registration was never computed or found from something else.
+    // Whether a registration was never computed, or computed from other inputs.
     fn is_stale(&self, registration: RegistrationId, basis: &Basis) -> bool
         ensures { result ≡ is_stale (kept_of self.now registration.0) basis.now }
     {
@@ -195,11 +196,11 @@ impl Index {
         }
     }
 
-    /// Finds what there is to find of a registration's target now, and keeps it with what it was found from (Intersection
-    /// Observer, 3.2.10). All rectangles are in the coordinates of the top document's viewport.
+    /// Computes the current finding of a registration's target, and stores it with its inputs (Intersection Observer,
+    /// 3.2.10). All rectangles are in the coordinates of the top document's viewport.
     ///
-    /// It takes one step, and those of `clip_of` where the chain leads to the root. No memory. Each edge of the root rectangle is moved
-    /// by at most 100 of its widths; the target's box and what is seen of it are in the range of boxes.
+    /// It takes one step, and those of `clip_of` where the chain leads to the root. Doesn't allocate. Each edge of the root
+    /// rectangle is moved by at most 100 times its width; the target's box and its visible part are in the range of boxes.
     pub fn recompute<S: Scene, L: Ledger>(
         &mut self,
         scene: &S,

@@ -1,5 +1,5 @@
-//! What findings over a scene are in a world, and what it means that a registration isn't stale: each law is the clause of a
-//! function that does nothing.
+//! Findings computed over a scene are those of a world, and what isn't stale is unchanged: each law is stated as the contract
+//! of an empty function.
 
 ghost use Rattle.std.specs.Prelude.{◌≡◌, ◌↔◌, ℕ, List, Option, IsSome, IfSome, true, false};
 ghost use Rattle.std.specs.Ordering.{nat_cmp};
@@ -21,8 +21,8 @@ ghost use Rattle.candidate_index.specs.Registrations.{finding_for, IfChained};
 ghost use Rattle.candidate_index.specs.Held.{kept_of, is_stale_now, AreFound};
 ghost use Rattle.candidate_index.specs.Worlds.{standing_in, told, IsChain};
 
-/// Two bases are told to be the same exactly where they are equal. Where a registration isn't stale, something is kept of it, and that
-/// is what is found of it now.
+/// Two bases compare as the same exactly when they are equal. If a registration isn't stale, a finding is stored for it, and
+/// that is its current finding.
 pub fn what_is_not_stale_is_found_as_it_was()
     ensures same { (one other : BasisOf) → (is_same_basis one other ≡ true) ↔ (one ≡ other) }
     ensures found { (scene : SceneOf) (standings : Root → ℕ → StandingOf) (it : IntersectionObservers) (between : ℕ → List ContainerOf) (kept : FinMap nat_cmp (Option KeptOf)) (serial : ℕ) →
@@ -30,9 +30,9 @@ pub fn what_is_not_stale_is_found_as_it_was()
         IsSome (kept_of kept serial) × IfSome (kept_of kept serial) (λ last. seen_finding last.finding ≡ finding_for scene standings it serial (between serial)) }
 {}
 
-/// In any world, what is found over its containers, clips and boxes, as an observer with these scroll margins sees them, by how the
-/// target lies to the root is the world's finding, once the target's box and what is seen of it are told in the coordinates of the
-/// target's document, and the root rectangle in those of the root's.
+/// In any world, the finding computed from its containers, clips and boxes, as an observer with these scroll margins sees
+/// them, and from the relation of the target to the root, is the world's finding, once the target's box and its visible part
+/// are mapped to the coordinates of the target's document, and the root rectangle to those of the root's.
 pub fn findings_are_those_of_any_world()
     ensures { (shown : Shown) (margins : Margins) (observer : IntersectionObserver) (target : ℕ) (between : List ContainerOf) →
         IfChained (standing_in (relation shown observer.root target)) (IsChain shown observer.root target between) →

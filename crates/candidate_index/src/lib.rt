@@ -1,8 +1,8 @@
-//! What was found of each target of an intersection observer, kept until what it was found from differs (Intersection
-//! Observer, 3.2.10): which registrations are stale, and what is found of one now.
+//! A cache of the findings of intersection observers (Intersection Observer, 3.2.10): the finding of each registration is
+//! kept until an input of it changes; it answers which registrations are stale, and recomputes one.
 //!
-//! How targets stand to roots, containers, clips and boxes are asked of the caller (`Scene`). Rectangles are in units of 1/64
-//! CSS pixel and in the coordinates of the top document's viewport.
+//! Containers, clips and boxes, and the relations of targets to roots, are queried from the caller (`Scene`). Rectangles are
+//! in units of 1/64 CSS pixel and in the coordinates of the top document's viewport.
 #![tactic(auto)]
 
 mod basis;

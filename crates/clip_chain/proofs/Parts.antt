@@ -1,14 +1,15 @@
 -- The common part of a rectangle and others: its points, where it lies, and that it comes rectangle by rectangle.
-use Rattle.std.proofs.Common.{◌≡◌, ◌↔◌, ◌∙◌, ℤ, Bool, true, false, cond, ◌&&◌, List, [], ◌∷◌, Some, None, ap, refl, sym, subst, arith}
+use Rattle.std.proofs.Common.{◌≡◌, ◌↔◌, ◌∙◌, ℤ, Bool, true, false, cond, ◌&&◌, List, [], ◌∷◌, Some, None, ap, refl, sym, arith}
 use Rattle.std.specs.Prelude.{int_le, ◌≤ℤ◌, ◌-ℤ◌, pos, fold, IfSome}
 use Rattle.std.specs.Int.{int_min, int_max}
 use Rattle.std.proofs.lemmas.Int.{ints}
+use Rattle.std.proofs.lemmas.Bool.{and_parts}
 use Rattle.px_units.specs.declared.Rect.{Rect}
 use Rattle.px_units.specs.Rects.{has_points, overlap, meeting, Holds, HeldBy}
-use Rattle.px_units.proofs.Meeting.{in_both, common_points}
+use Rattle.px_units.proofs.Meeting.{in_both, held_by_some, held, point_within, in_overlap}
 use Rattle.page_model.specs.Chains.{common_part}
 use Rattle.clip_chain.specs.Ranges.{IsEdge, IsSide, IsBounds}
-use Rattle.thresholds.proofs.Areas.{in_order, le_of, lower, upper}
+use Rattle.thresholds.proofs.Areas.{le_of, lower, upper}
 use Rattle.thresholds.proofs.Crossing.{not_both}
 
 -- what is there only where a test is met
@@ -58,24 +59,6 @@ one_more first other others = refl
 
 -- the points of a common part
 
-held : (r : Rect) (b : Bool) (x y : ℤ) → HeldBy (cond b (Some r) None) x y → Holds r x y
-held r true x y h = h
-held r false x y h = absurd h
-
-held_if : (r : Rect) (b : Bool) (x y : ℤ) → b ≡ true → Holds r x y → HeldBy (cond b (Some r) None) x y
-held_if r b x y e h = subst (λ (v : Bool). HeldBy (cond v (Some r) None) x y) (sym e) h
-
-le_between : (a x b : ℤ) → a ≤ℤ x → x ≤ℤ b → int_le a b ≡ true
-le_between a x b g h = let f : a ≤ℤ b = omega (arith, ints) in grind (arith, ints)
-
-point_within : (r : Rect) (x y : ℤ) → Holds r x y → has_points r ≡ true
-point_within r x y h =
-    ap (λ b. b && int_le r.top r.bottom) (le_between r.left x r.right h.right_of_left h.left_of_right)
-    ∙ le_between r.top y r.bottom h.below_top h.above_bottom
-
-in_overlap : (a b : Rect) (x y : ℤ) → Holds a x y → Holds b x y → Holds (overlap a b) x y
-in_overlap a b x y g h = held (overlap a b) (has_points (overlap a b)) x y ((common_points a b x y).1 (g, h))
-
 abbrev pub HoldsAll : ℤ → ℤ → List Rect → Type 0
 HoldsAll x y [] = Unit {0}
 HoldsAll x y (r ∷ rs) = Holds r x y × HoldsAll x y rs
@@ -95,8 +78,8 @@ pub held_by_part : (first : Rect) (others : List Rect) (x y : ℤ) → HeldBy (c
 unfolding common_part
 held_by_part first others x y =
     let whole = fold overlap first others in (
-      (λ h. in_each first others x y (held whole (has_points whole) x y h)),
-      (λ h. let within : Holds whole x y = in_fold first others x y h.0 h.1 in held_if whole (has_points whole) x y (point_within whole x y within) within),
+      (λ h. in_each first others x y (held_by_some whole (has_points whole) x y h)),
+      (λ h. let within : Holds whole x y = in_fold first others x y h.0 h.1 in held whole (has_points whole) x y (point_within whole x y within) within),
     )
 
 -- where a common part lies
@@ -130,7 +113,7 @@ edge_up edge first other g h a b = let low = a.low in let high = b.high in recor
 
 bounds_within : (first r : Rect) → IsBounds first → Within r first → has_points r ≡ true → IsBounds r
 bounds_within first r bounds w points =
-    let order = in_order (int_le r.left r.right) (int_le r.top r.bottom) points in
+    let order = and_parts (int_le r.left r.right) (int_le r.top r.bottom) points in
     let across = le_of r.left r.right order.0 in
     let down = le_of r.top r.bottom order.1 in
     let edges = bounds.edges in

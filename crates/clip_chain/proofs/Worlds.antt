@@ -3,7 +3,7 @@ use Rattle.std.proofs.Common.{◌≡◌, ◌∙◌, ℕ, zero, suc, ◌≤◌, B
 use Rattle.std.specs.Prelude.{not, ◌&&◌, filter_map, take_while, option_map, ◌==◌}
 use Rattle.std.specs.List.{cons_option}
 use Rattle.std.proofs.lemmas.List.Sums.{take_while-cons}
-use Rattle.std.proofs.lemmas.Bool.{eqb-true}
+use Rattle.std.proofs.lemmas.Bool.{eqb-true, false_from_ne_true}
 use Rattle.px_units.specs.declared.Rect.{Rect}
 use Rattle.script_model.specs.Margins.{Margins}
 use Rattle.page_model.specs.World.{Root, ImplicitRoot, DocumentRoot, ElementRoot, Container as ModelContainer, InElement, InDocument}
@@ -19,9 +19,9 @@ use Rattle.clip_chain.specs.Worlds.{element_spot, spot_of, spot_of_root, has_box
 use Rattle.clip_chain.proofs.Moving.{root_through}
 
 -- what stands in something has a box
-boxed : (b : Bool) (o : Option Container) (next : Container) → cond b o None ≡ Some next → (b ≡ true) × (o ≡ Some next)
-boxed true o next h = (refl, h)
-boxed false o next h = let wrong : None ≡ Some next = h in absurd (let no : ⊥ = cc in no)
+pub leads_on : (b : Bool) (o : Option Container) (next : Container) → cond b o None ≡ Some next → (b ≡ true) × (o ≡ Some next)
+leads_on true o next h = (refl, h)
+leads_on false o next h = let wrong : None ≡ Some next = h in absurd (let no : ⊥ = cc in no)
 
 named : (o : Option ModelContainer) (next : Container) → option_map spot_of o ≡ Some next → (container : ModelContainer) × (o ≡ Some container) × (spot_of container ≡ next)
 named None next h = let wrong : None ≡ Some next = h in absurd (let no : ⊥ = cc in no)
@@ -34,7 +34,7 @@ back (InDocument document) = refl
 -- what a container of the scene is in the world
 beyond : (shown : Shown) (container : ModelContainer) (next : Container) → (scene_of shown).container (spot_of container) ≡ Some next → (has_box_at shown (spot_of container) ≡ true) × ((outer : ModelContainer) × (container_beyond (shown.tree) container ≡ Some outer) × (spot_of outer ≡ next))
 beyond shown container next h =
-    let met = boxed (has_box_at shown (spot_of container)) (option_map spot_of (container_beyond (shown.tree) (seen_container (spot_of container)))) next h in
+    let met = leads_on (has_box_at shown (spot_of container)) (option_map spot_of (container_beyond (shown.tree) (seen_container (spot_of container)))) next h in
     let outer = named (container_beyond (shown.tree) (seen_container (spot_of container))) next met.1 in
     (met.0, (outer.0, ap (container_beyond (shown.tree)) (sym (back container)) ∙ outer.1, outer.2))
 
@@ -62,12 +62,8 @@ root_spot_is (DocumentRoot root) (InElement element) e = absurd (let no : ⊥ = 
 root_spot_is (ElementRoot root) (InElement element) e = ap element_spot (eqb-true element root e)
 root_spot_is (ElementRoot root) (InDocument document) e = absurd (let no : ⊥ = cc in no)
 
-not_true : (b : Bool) → (b ≡ true → ⊥) → b ≡ false
-not_true true f = absurd (f refl)
-not_true false f = refl
-
 root_missed : (root : Root) (container : ModelContainer) → (¬ spot_of container ≡ spot_of_root root) → is_root root container ≡ false
-root_missed root container apart = not_true (is_root root container) (λ e. apart (root_spot_is root container e))
+root_missed root container apart = false_from_ne_true (is_root root container) (λ e. apart (root_spot_is root container e))
 
 abbrev before : Root → List ModelContainer → List ModelContainer
 before root containers = take_while (λ c. not (is_root root c)) containers

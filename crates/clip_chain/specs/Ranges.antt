@@ -1,4 +1,4 @@
--- Where rectangles lie, in units of 1/64 pixel. The bounds are this project's own.
+-- The ranges of rectangles, in units of 1/64 pixel. The bounds are this project's own.
 use Rattle.std.specs.Prelude.{ℤ, pos, negsuc, ◌≤ℤ◌, ◌-ℤ◌}
 use Rattle.px_units.specs.declared.Rect.{Rect}
 
@@ -23,12 +23,12 @@ pub record IsSide (side : ℤ) : Type 0 where
   pub low : pos 0 ≤ℤ side
   pub high : side ≤ℤ pos 1099511627776
 
--- what a spot clips to
+-- the clip of a spot
 pub record IsClip (r : Rect) : Type 0 where
   pub edges : HasEdges r
   pub width : IsClipWidth (r.right -ℤ r.left)
 
--- a box, whose edges don't cross
+-- a box, whose width and height aren't negative
 pub record IsBounds (r : Rect) : Type 0 where
   pub edges : HasEdges r
   pub width : IsSide (r.right -ℤ r.left)

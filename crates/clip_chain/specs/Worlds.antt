@@ -1,4 +1,4 @@
--- The spots of a page: what the definitions of a world tell of them (Intersection Observer, 3.2.7).
+-- The spots of a page, by the definitions of a world (Intersection Observer, 3.2.7).
 use Rattle.std.specs.Prelude.{ℕ, Bool, true, false, cond, None, option_map}
 use Rattle.px_units.specs.declared.Rect.{Rect}
 use Rattle.script_model.specs.Margins.{Margins}
@@ -16,7 +16,7 @@ element_spot element = Element (record { 0 = element })
 abbrev pub view_spot : ℕ → Container
 view_spot document = Document (record { 0 = document })
 
--- what is seen as a container of the definitions
+-- the spot for a container of the definitions
 abbrev pub spot_of : ModelContainer → Container
 spot_of (InElement element) = element_spot element
 spot_of (InDocument document) = view_spot document
@@ -35,7 +35,7 @@ abbrev pub bounds_at : Shown → Container → Rect
 bounds_at shown (Element node) = cond (has_box_at shown (Element node)) (border_rect shown (node.0)) zero_rect
 bounds_at shown (Document document) = viewport_rect shown (document.0)
 
--- an element without a box stands in nothing and clips nothing, and its box is zero
+-- an element without a box has no container and no clip, and its box is the zero rectangle
 abbrev pub scene_of : Shown → Scene
 scene_of shown = record {
   container = λ of. cond (has_box_at shown of) (option_map spot_of (container_beyond (shown.tree) (seen_container of))) None;

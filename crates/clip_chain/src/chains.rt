@@ -13,7 +13,7 @@ use crate::Geometry;
 use element_tree::Container;
 use px_units::{Rect, meet};
 
-/// Whether the root is on the chain of containers above the target. No memory.
+/// Whether the root is on the chain of containers above the target. Doesn't allocate.
 pub fn reaches<G: Geometry>(geometry: &G, target: Container, root: Container) -> bool
     ensures { IsTrue result ↔ IsAbove (G.scene geometry.now) root target }
 {
@@ -27,11 +27,11 @@ pub fn reaches<G: Geometry>(geometry: &G, target: Container, root: Container) ->
     false
 }
 
-/// The root rectangle before a margin moves it (Intersection Observer, 2.2): the viewport of a document, the padding box of an
-/// element that clips, the border box of another, zeros for an element without a box. The implicit root is the viewport of
-/// the top document, its `View`. No memory.
+/// Returns the root rectangle before root margins are applied (Intersection Observer, 2.2): the viewport of a document, the
+/// padding box of an element that clips, the border box of any other element, zeros for an element without a box. The
+/// implicit root is the viewport of the top document, its `View`. Doesn't allocate.
 ///
-/// Each edge lies between -2^48 and 2^48, the width between -2^42 and 2^42, unless scroll margins moved it.
+/// Each edge lies between -2^48 and 2^48, the width between -2^42 and 2^42, unless it was moved by scroll margins.
 pub fn root_rect<G: Geometry>(geometry: &G, root: Container) -> Rect
     ensures root { result ≡ root_bounds (G.scene geometry.now) root }
     ensures range { (G.scene geometry.now).moved root ≡ false → IsClip result }
@@ -42,12 +42,12 @@ pub fn root_rect<G: Geometry>(geometry: &G, root: Container) -> Rect
     }
 }
 
-/// What is seen of the target (Intersection Observer, 3.2.7): the common part of its box, the clips of the spots strictly
-/// between it and the root, and `limits`, which is the root rectangle moved by a margin. Edges count, so rectangles that only
-/// touch have a common part. None exactly where no point is common. No memory.
+/// Returns the visible part of the target (Intersection Observer, 3.2.7): the intersection of its box, the clips of the spots
+/// strictly between it and the root, and `limits`, the root rectangle with root margins applied. Edges count, so rectangles
+/// that only touch do intersect. `None` exactly when there is no common point. Doesn't allocate.
 ///
-/// Needs that the root is above the target, as `reaches` tells. Each edge lies between -2^48 and 2^48, width and height from 0
-/// to 2^40.
+/// Requires that the root is above the target (`reaches`). Each edge lies between -2^48 and 2^48, width and height from 0 to
+/// 2^40.
 pub fn visible_rect<G: Geometry>(
     geometry: &G,
     target: Container,
@@ -64,7 +64,7 @@ pub fn visible_rect<G: Geometry>(
     clipped_below(geometry, target, root, unclipped)
 }
 
-// What the clips of the spots strictly between the target and the root leave of a rectangle.
+// Returns what the clips of the spots strictly between the target and the root leave of a rectangle.
 fn clipped_below<G: Geometry>(
     geometry: &G,
     target: Container,
@@ -87,8 +87,8 @@ fn clipped_below<G: Geometry>(
     Some(common)
 }
 
-/// The container of a spot, None where that is the root or there is none. So a chain is walked outwards from a spot up to its root. No
-/// memory.
+/// Returns the container of a spot, `None` if that is the root or there is none. Used to walk a chain outwards from a spot up
+/// to its root. Doesn't allocate.
 pub fn container_below<G: Geometry>(
     geometry: &G,
     of: Container,

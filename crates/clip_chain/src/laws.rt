@@ -1,4 +1,4 @@
-//! That chains and parts are those of a page: each law is the clause of a function that does nothing.
+//! Chains and visible parts are those of a page: each law is stated as the contract of an empty function.
 
 ghost use Rattle.std.specs.Prelude.{◌≡◌, ◌↔◌, ◌+◌, ◌≤◌, ℕ, List, [], ◌∷◌, ◌++◌, length, filter_map, Some};
 ghost use Rattle.std.specs.List.{slice_index_or, Contains};
@@ -13,8 +13,8 @@ ghost use Rattle.clip_chain.specs.Chains.{Leads};
 ghost use Rattle.clip_chain.specs.Visible.{part_between};
 ghost use Rattle.clip_chain.specs.Worlds.{scene_of, scene_for, element_spot, spot_of_root};
 
-/// On a chain each spot after the first is the container of the one before, the last one is the root, and the root stands
-/// nowhere before.
+/// On a chain each spot after the first is the container of the one before, the last one is the root, and the root doesn't
+/// occur before.
 pub fn a_chain_goes_from_container_to_container()
     ensures { (scene : Scene) (from root : ContainerOf) (between : List ContainerOf) →
         Leads scene from between root
@@ -28,9 +28,9 @@ pub fn a_chain_is_the_only_one()
         Leads scene from some root → Leads scene from others root → some ≡ others }
 {}
 
-/// In any world, the chain from a target to a root has the clips between that the world's definition names, so that what is
-/// seen of the target is the common part which its finding cuts to. The root rectangle before a margin moves it is the
-/// world's too. A chain is no longer than that definition looks.
+/// In any world, the clips on the chain from a target to a root are those of the world's definition, so that the visible part
+/// of the target is that of its finding. The root rectangle before root margins are applied is the world's, too. This is for
+/// chains no longer than that definition follows.
 pub fn chains_are_those_of_any_world()
     ensures clips { (shown : Shown) (root : Root) (target : ℕ) (between : List ContainerOf) →
         Leads (scene_of shown) (element_spot target) between (spot_of_root root) → length between ≤ most_containers →
@@ -42,7 +42,7 @@ pub fn chains_are_those_of_any_world()
     ensures root { (shown : Shown) (root : Root) → root_bounds (scene_of shown) (spot_of_root root) ≡ root_bounds_in shown root }
 {}
 
-/// The same holds of the page as an observer with scroll margins sees it. They leave its root rectangle alone.
+/// The same holds for the page as an observer with scroll margins sees it. They don't affect its root rectangle.
 pub fn chains_with_scroll_margins_are_those_of_any_world()
     ensures clips { (shown : Shown) (margins : Margins) (root : Root) (target : ℕ) (between : List ContainerOf) →
         Leads (scene_of shown) (element_spot target) between (spot_of_root root) → length between ≤ most_containers →

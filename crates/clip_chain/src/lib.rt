@@ -1,7 +1,7 @@
-//! What lies between a target and a root: the chain of containers from an element outwards, whether it comes to the root, the
-//! root rectangle, and what the clips on the way leave of the target (Intersection Observer, 2.2 and 3.2.7).
+//! The geometry between a target and a root: the chain of containers from an element outwards, whether it reaches the root,
+//! the root rectangle, and what the clips along the chain leave of the target (Intersection Observer, 2.2 and 3.2.7).
 //!
-//! Containers, clips and boxes are asked of the caller at each moment, so nothing here keeps one, and nothing takes memory.
+//! Containers, clips and boxes are queried from the caller when needed, so nothing is cached here, and nothing allocates.
 //! Rectangles are in units of 1/64 CSS pixel and in the coordinates of the top document's viewport.
 #![tactic(auto)]
 

@@ -1,4 +1,4 @@
-//! What an observer with scroll margins sees.
+//! The geometry seen through scroll margins.
 
 ghost use Rattle.std.specs.Prelude.{◌≡◌, false};
 ghost use Rattle.clip_chain.specs.Scenes.{through};
@@ -8,8 +8,9 @@ use element_tree::Container;
 use px_units::Rect;
 use thresholds::Margins;
 
-/// A geometry as an observer with this root and these scroll margins sees it: the margins move the clip of each scroll container but the
-/// root outward, percentages being of the clip's width on all sides (Intersection Observer, 2.2: scrollMargin). Nothing else differs.
+/// A geometry as an observer with this root and these scroll margins sees it: the margins move the clip of each scroll
+/// container other than the root outward, percentages being of the clip's width on all sides (Intersection Observer, 2.2:
+/// scrollMargin). Nothing else differs.
 #[derive(Drop)]
 pub struct Through<'a, G: Scrolls> {
     pub geometry: &'a G,

@@ -1,4 +1,4 @@
--- What elements and documents by name stand for in the definitions of a page: the same by number.
+-- The containers of the definitions, which have numbers, for those of the code, which have ids.
 use Rattle.std.specs.Prelude.{List, map}
 use Rattle.page_model.specs.World.{Container as ModelContainer, InElement, InDocument}
 use Rattle.element_tree.specs.declared.container.Container.{Container}

@@ -1,2 +1,2 @@
-//! What an element or a document of `element_tree` is in the definitions of a page (`specs/`). It has no code.
+//! Maps the elements and documents of `element_tree` to those of a page's definitions (`specs/`). It has no code.
 #![tactic(auto)]

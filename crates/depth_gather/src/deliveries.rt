@@ -1,4 +1,4 @@
-//! Deliveries: what each observer is told at its turn.
+//! Deliveries: what the callback of each observer receives at its turn.
 
 ghost use Rattle.std.specs.Prelude.{◌≡◌, ◌<◌, None, Some, map, fold, length, option_map, IfOk, OnOk, OnErr, IfSome};
 ghost use Rattle.std.specs.List.{AllByRecursion};
@@ -15,21 +15,20 @@ use element_tree::DocumentId;
 use resize_observer::{Observation, ObserverId, Observers};
 use std::alloc::{AllocError, Global};
 
-/// What an observer's callback is given.
+/// The arguments of an observer's callback.
 #[derive(Drop)]
 pub struct Delivery {
     pub observer: ObserverId,
     pub entries: ResizeList,
-    /// The place from which the next delivery is looked for.
+    /// The index from which to look for the next delivery.
     pub place: usize,
 }
 
-/// The next delivery of a document (Resize Observer, 3.4: broadcast active observations, up to the callback): of its
-/// observers from `place` on, as they are now, the first with something active; an entry for each active observation, of
-/// sizes as they are now, which become the last reported ones. None exactly where no observer is left that has something
-/// active.
+/// Returns the next delivery of a document (Resize Observer, 3.4: broadcast active observations, up to the callback): the
+/// first of its current observers from `place` on that has active observations, with an entry for each of them of the current
+/// sizes, which become the last reported ones. `None` exactly when no observer with active observations is left.
 ///
-/// All is unchanged where memory is refused.
+/// Nothing changes if an allocation fails.
 pub fn next_delivery<Z: Sizes>(
     alloc: Global,
     observers: &mut Observers,
@@ -58,7 +57,7 @@ pub fn next_delivery<Z: Sizes>(
     }))
 }
 
-// The entries of these observations.
+// Returns the entries of these observations.
 fn entries_of<Z: Sizes>(
     alloc: Global,
     active: &[Observation],
@@ -74,7 +73,7 @@ fn entries_of<Z: Sizes>(
     Ok(entries)
 }
 
-// The sizes of now become the last reported ones of what is active.
+// Sets the last reported sizes of the active observations to the current sizes.
 fn report_active<Z: Sizes>(observers: &mut Observers, sizes: &Z, observer: ObserverId)
     requires { observer.0 < length observers.old.part.made }
     ensures reported { observers.new ≡ record observers.old { part = reporting (Z.sight sizes.now) observer.0 (observers.old.part) } }
@@ -87,7 +86,7 @@ fn report_active<Z: Sizes>(observers: &mut Observers, sizes: &Z, observer: Obser
     }
 }
 
-/// The end of an observer's turn, once its callback was called: its active list is emptied. No memory.
+/// Ends an observer's turn after its callback was called: clears its active list. Doesn't allocate.
 pub fn end_delivery(observers: &mut Observers, observer: ObserverId)
     requires { observer.0 < length observers.old.part.made }
     ensures ended { observers.new ≡ record observers.old { part = without_active observer.0 (observers.old.part) } }
@@ -96,7 +95,7 @@ pub fn end_delivery(observers: &mut Observers, observer: ObserverId)
     observers.clear_active(observer);
 }
 
-/// The least depth of the entries, of which there is one. No memory.
+/// Returns the least depth of the entries. Requires that there is at least one. Doesn't allocate.
 pub fn least_depth(delivery: &Delivery) -> u32
     requires { 0 < length delivery.now.entries }
     ensures { fold shallower None (map seen_entry delivery.now.entries) ≡ Some result }

@@ -1,4 +1,4 @@
-//! The entries that a callback is given.
+//! The entries passed to a callback.
 
 ghost use Rattle.std.specs.Prelude.{◌≡◌};
 
@@ -6,11 +6,11 @@ use element_tree::NodeId;
 use px_units::{Point, Size};
 use std::marker::Model;
 
-/// What an observer is told of a target (Resize Observer, 2.3: ResizeObserverEntry), in units of 1/64 CSS pixel but for device pixels.
+/// What is reported of a target (Resize Observer, 2.3: ResizeObserverEntry), in units of 1/64 CSS pixel except `device`.
 #[derive(Clone, Copy, PartialEq, Eq, Debug)]
 pub struct ResizeEntry {
     pub target: NodeId,
-    /// The corner of the content in the padding box.
+    /// The top left corner of the content box, relative to the padding box.
     pub corner: Point,
     /// The size of the content box.
     pub content: Size,
@@ -18,11 +18,11 @@ pub struct ResizeEntry {
     pub border: Size,
     /// The size of the content box in device pixels.
     pub device: Size,
-    /// How deep the target stood in its tree.
+    /// The depth of the target in its tree.
     pub depth: u32,
 }
 
-/// Entries in order, which a clause sees as a list.
+/// Entries in order. Contracts see them as a list.
 #[derive(Drop)]
 pub struct ResizeList {
     entries: Vec<ResizeEntry>,
@@ -38,14 +38,14 @@ impl Model for ResizeList {
 }
 
 impl ResizeList {
-    /// The list of these entries.
+    /// Builds the list of these entries.
     pub fn new(entries: Vec<ResizeEntry>) -> ResizeList
         ensures { result ≡ entries.items }
     {
         ResizeList { entries }
     }
 
-    /// Its entries.
+    /// Returns the entries.
     pub fn as_slice(&self) -> &[ResizeEntry]
         ensures { result.now ≡ self.now }
     {

@@ -11,9 +11,9 @@ use crate::observation::has_changed;
 use element_tree::DocumentId;
 use resize_observer::{ObserverId, Observers};
 
-/// Gathers the active observations of a document (Resize Observer, 3.4: gather active observations at depth), and answers
-/// how many there are: each observer of the document holds as active those of its targets whose size isn't the last
-/// reported one and which stand deeper than `depth`, and as skipped those whose size isn't and which don't. No memory.
+/// Gathers the active observations of a document (Resize Observer, 3.4: gather active observations at depth), and returns how
+/// many there are. Of the targets of each observer whose size isn't the last reported one, those deeper than `depth` go to
+/// the active list, all others to the skipped list. Doesn't allocate.
 pub fn gather<Z: Sizes>(
     observers: &mut Observers,
     sizes: &Z,
@@ -28,7 +28,7 @@ pub fn gather<Z: Sizes>(
     active_number(observers, document)
 }
 
-// Each observer of the document gathers.
+// Gathers for each observer of the document.
 fn gather_all<Z: Sizes>(observers: &mut Observers, sizes: &Z, document: DocumentId, depth: u32)
     ensures gathered { observers.new ≡ record observers.old { part = gathering (Z.sight sizes.now) document.0 depth (observers.old.part) } }
     ensures count { length observers.new.part.made ≡ length observers.old.part.made }
@@ -40,8 +40,7 @@ fn gather_all<Z: Sizes>(observers: &mut Observers, sizes: &Z, document: Document
     }
 }
 
-// How many observations are active in a document. They are no more than all observers hold, of which there are fewer than
-// 2^32.
+// Returns how many observations are active in a document: at most as many as all observers have, which is less than 2^32.
 fn active_number(observers: &Observers, document: DocumentId) -> u32
     requires { active_count document.0 observers.now.part ≤ resize_observations observers.now.part }
     ensures { result ≡ active_count document.0 observers.now.part }
@@ -55,7 +54,7 @@ fn active_number(observers: &Observers, document: DocumentId) -> u32
     number
 }
 
-// One observer gathers.
+// Gathers for one observer.
 fn gather_targets<Z: Sizes>(observers: &mut Observers, sizes: &Z, observer: ObserverId, depth: u32)
     requires { observer.0 < length observers.old.part.made }
     ensures gathered { observers.new ≡ changing (gathered (Z.sight sizes.now) depth) observer.0 observers.old }
@@ -67,7 +66,7 @@ fn gather_targets<Z: Sizes>(observers: &mut Observers, sizes: &Z, observer: Obse
     }
 }
 
-// One observer, which gathered the targets before this place, gathers the one that stands there.
+// Gathers the target at this index, those before it having been gathered.
 fn gather_target<Z: Sizes>(
     observers: &mut Observers,
     sizes: &Z,

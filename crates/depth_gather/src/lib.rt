@@ -1,9 +1,9 @@
-//! Resize observations gathered at a depth, and what is delivered of them, observer by observer, while callbacks change the
-//! lists (Resize Observer, 3.4).
+//! Gathers resize observations at a depth, and delivers them observer by observer while callbacks change the lists (Resize
+//! Observer, 3.4).
 //!
-//! Sizes, corners and depths are asked of the caller at each moment, so nothing here keeps one. A delivery is found by its
-//! place among a document's observers and owns its entries, so nothing is borrowed while the callback runs. Memory is
-//! asked for by `next_delivery` alone.
+//! Sizes, corners and depths are queried from the caller when needed, so nothing is cached here. A delivery is found by an
+//! index among a document's observers and owns its entries, so nothing is borrowed while the callback runs. Only
+//! `next_delivery` allocates.
 #![tactic(auto)]
 
 mod deliveries;

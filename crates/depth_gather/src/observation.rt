@@ -1,4 +1,4 @@
-//! One observation, against sizes as they are now.
+//! One observation, compared with the current sizes.
 
 ghost use Rattle.std.specs.Prelude.{◌≡◌};
 ghost use Rattle.page_model.specs.Gathering.{has_changed, size_entry};
@@ -10,7 +10,7 @@ use crate::{ResizeEntry, Sizes};
 use px_units::{BoxKind, Size};
 use resize_observer::Observation;
 
-// Whether two sizes are one.
+// Whether two sizes are equal.
 fn is_same(a: Size, b: Size) -> bool
     requires first { IsSize a }
     requires second { IsSize b }
@@ -28,7 +28,7 @@ pub(crate) fn has_changed<Z: Sizes>(sizes: &Z, observation: &Observation) -> boo
     !is_same(now, observation.last)
 }
 
-// The entry of an observation (Resize Observer, 3.4: create and populate a ResizeObserverEntry).
+// Returns the entry of an observation (Resize Observer, 3.4: create and populate a ResizeObserverEntry).
 pub(crate) fn entry_of<Z: Sizes>(sizes: &Z, observation: &Observation) -> ResizeEntry
     ensures value { result ≡ as_entry (size_entry (Z.sight sizes.now) (seen_observation observation.now)) }
     ensures lengths { HasLengths result }

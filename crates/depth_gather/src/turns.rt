@@ -8,14 +8,14 @@ ghost use Rattle.depth_gather.specs.Turning.{found_turn};
 use element_tree::DocumentId;
 use resize_observer::{ObserverId, Observers};
 
-// An observer with something active, and the place behind it.
+// An observer with active observations, and the index after it.
 #[derive(Clone, Copy)]
 pub(crate) struct Found {
     pub(crate) observer: ObserverId,
     pub(crate) place: usize,
 }
 
-// The first observer of the document from this place on with something active.
+// Returns the first observer of the document from this index on that has active observations.
 pub(crate) fn next_turn(observers: &Observers, document: DocumentId, place: usize) -> Option<Found>
     ensures value { option_map found_turn result ≡ turn_from document.0 place observers.now.part }
     ensures made { IfSome result (λ found. found.observer.0 < length observers.now.part.made) }
@@ -34,7 +34,7 @@ pub(crate) fn next_turn(observers: &Observers, document: DocumentId, place: usiz
     None
 }
 
-/// Whether something is skipped in the document (Resize Observer, 3.4: has skipped observations). No memory.
+/// Whether the document has skipped observations (Resize Observer, 3.4: has skipped observations). Doesn't allocate.
 pub fn has_skipped(observers: &Observers, document: DocumentId) -> bool
     ensures { result ≡ has_skipped document.0 observers.now.part }
 {

@@ -1,7 +1,7 @@
 -- Chains of containers end: each step outwards goes some levels up, or from a document to the frame around it.
-use Rattle.std.proofs.Common.{◌≡◌, ◌≤◌, ◌+◌, ◌*◌, ℕ, zero, suc, Bool, true, false, cond, List, ◌∷◌, Option, Some, None, option_map, refl, ap, sym, subst, ◌∙◌, eqb-true, arith}
+use Rattle.std.proofs.Common.{◌≡◌, ◌≤◌, ◌+◌, ◌*◌, ℕ, zero, suc, true, false, cond, List, ◌∷◌, Option, Some, None, option_map, refl, ap, sym, subst, ◌∙◌, eqb-true, arith}
 use Rattle.std.specs.Prelude.{◌==◌, ◌&&◌, not, is_some, option_and_then}
-use Rattle.std.proofs.lemmas.Bool.{false≢true}
+use Rattle.std.proofs.lemmas.Bool.{false≢true, and_parts}
 use Rattle.layout_model.specs.Clips.{is_block}
 use Rattle.layout_model.specs.Nodes.{Node, Holder, HeldByElement, HeldByPage, HeldByScreen, holder}
 use Rattle.layout_model.specs.Boxes.{has_box_in, inputs_in}
@@ -24,10 +24,6 @@ use Rattle.document_laws.specs.Levels.{IsWithinLevels}
 use Rattle.document_laws.proofs.Showing.{leads_up, holder_leads, lively, view_whole, boxed_in, boxed_active}
 
 -- what has a box stands in the tree of an Active document -----------------------------------------------------------------------------------
-
-second : (a b : Bool) → (a && b) ≡ true → b ≡ true
-second true b is = is
-second false b is = absurd (false≢true is)
 
 root_shown : (root : Option ℕ) (found : Option (ℕ × ℕ)) (r : ℕ) → (view_with root found).root ≡ Some r → root ≡ Some r
 root_shown root None r is = absurd (not_some r is)
@@ -57,11 +53,11 @@ module _ (tree : Tree) (levels : IsWithinLevels tree) where
       from_parents tree levels.framed.trees (λ k. has_box_in at root k ≡ true → root_of tree k ≡ root)
       (λ k up boxed.
       root_top tree levels.framed.trees k up
-      ∙ eqb-true k root (second (not ((at k).item.style.hidden)) (k == root) (sym (box_top at root k up) ∙ boxed)))
+      ∙ eqb-true k root ((and_parts (not ((at k).item.style.hidden)) (k == root) (sym (box_top at root k up) ∙ boxed)).1))
       (λ k p up above boxed.
-      let inner = second (not ((at k).item.style.hidden)) (is_block ((at p).item.kind) && has_box_in at root p)
+      let inner = and_parts (not ((at k).item.style.hidden)) (is_block ((at p).item.kind) && has_box_in at root p)
       (sym (box_child at root k p up (levels.framed.trees.shallow p)) ∙ boxed) in
-      root_child tree levels.framed.trees k p up ∙ above (second (is_block ((at p).item.kind)) (has_box_in at root p) inner))
+      root_child tree levels.framed.trees k p up ∙ above ((and_parts (is_block ((at p).item.kind)) (has_box_in at root p) inner.1).1))
       n
 
   module _ (screen : Screen) (n : ℕ) (boxed : has_box tree screen n ≡ true) where

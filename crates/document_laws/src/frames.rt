@@ -1,4 +1,4 @@
-//! Laws of the bounds that the definitions give their recursions over frames.
+//! Laws on the bounds of the definitions' recursions over frames.
 
 ghost use Rattle.std.specs.Prelude.{◌≡◌, ◌≤◌, ℕ, List, true};
 ghost use Rattle.page_model.specs.World.{Screen, Tree, World};
@@ -8,10 +8,11 @@ ghost use Rattle.page_model.specs.Shown.{shown_of};
 ghost use Rattle.page_model.specs.Chains.{origin_up, origin, holding, containers_by, containers_from, containers_of};
 ghost use Rattle.document_laws.specs.Levels.{IsWithinLevels};
 
-/// Nothing that is looked for from frame to frame is cut off. With any bound from 64 on what a document shows is the same, and so are
-/// the Active documents that are led to; where a document's viewport begins is with any bound from 65 on. The Fresh documents inside an
-/// element are asked for where it is shown in the tree of an Active document, and leave a tree within its levels: there they are the same
-/// with any bound from 64 on. So the bound that the definitions give them, 65,536, is never reached.
+/// No search along frames is cut off. What a document shows, and the Active documents that its frames lead to, are the same
+/// with any bound of at least 64, and the origin of a document's viewport is with any bound of at least 65. The Fresh
+/// documents inside an element are searched for when it is inserted into the tree of an Active document, which leaves a tree
+/// within its levels: there they are the same with any bound of at least 64. So the bound that the definitions give them,
+/// 65,536, is never reached.
 pub fn frames_are_never_cut_off()
     ensures views { (tree : Tree) → IsWithinLevels tree → (most : ℕ) (screen : Screen) (document : ℕ) → 64 ≤ most →
         view_up most tree screen document ≡ view_of tree screen document }
@@ -23,9 +24,9 @@ pub fn frames_are_never_cut_off()
         led_to most is_fresh_state tree (frames_in tree n) ≡ documents_inside is_fresh_state tree n }
 {}
 
-/// An element that has a box stands in the tree of an Active document, and of such an element all containers are found with any bound
-/// from 16,448 on. The clips of a target are asked for where it has a box, so the bound that the definition gives the chain, 65,536, is never
-/// reached.
+/// An element that has a box is in the tree of an Active document, and all containers of such an element are found with any
+/// bound of at least 16,448. The clips of a target are only computed if it has a box, so the bound that the definition gives
+/// the chain, 65,536, is never reached.
 pub fn containers_are_never_cut_off()
     ensures boxes { (tree : Tree) → IsWithinLevels tree → (screen : Screen) (n : ℕ) → has_box tree screen n ≡ true → stands_in_active tree n ≡ true }
     ensures containers { (tree : Tree) → IsWithinLevels tree → (most n : ℕ) → stands_in_active tree n ≡ true → 16448 ≤ most →

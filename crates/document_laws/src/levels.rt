@@ -1,4 +1,4 @@
-//! Laws of the bounds that the definitions give their recursions over levels of elements.
+//! Laws on the bounds of the definitions' recursions over levels of elements.
 
 ghost use Rattle.std.specs.Prelude.{◌≡◌, ◌<◌, ◌≤◌, ℕ, Option, length};
 ghost use Rattle.layout_model.specs.Nodes.{path_up, path_of, order_down as nodes_down, tree_order, held};
@@ -13,9 +13,9 @@ ghost use Rattle.page_documents.specs.Places.{IsThere};
 ghost use Rattle.document_laws.specs.Insertions.{IsLowThroughout};
 ghost use Rattle.document_laws.specs.Levels.{MakeLowTrees, IsWithinLevels};
 
-/// In trees of at most 256 levels nothing that is looked for upwards or downwards is cut off: with any bound from 256 on a path to the
-/// top, the descendants in tree order, the number of levels, a box with all that lies in it, what holds a box and so on outwards, what it is
-/// handed by those and where it stands are the same. So the bound that the definitions give them, 65,536, is never reached.
+/// In trees of at most 256 levels no search upwards or downwards is cut off: with any bound of at least 256, a path to the
+/// root, the descendants in tree order, the number of levels, a box with all that is in it, the chain of its holders, its
+/// inputs and its place are the same. So the bound that the definitions give them, 65,536, is never reached.
 pub fn levels_are_never_cut_off()
     ensures worlds { (tree : Tree) → IsWithinLevels tree → MakeLowTrees tree }
     ensures paths { (tree : Tree) → MakeLowTrees tree → (most n : ℕ) → 256 ≤ most → path_up most (nodes_of tree) n ≡ path_of (nodes_of tree) n }
@@ -31,8 +31,8 @@ pub fn levels_are_never_cut_off()
     ensures trees { (tree : Tree) → MakeLowTrees tree → (most n : ℕ) → 256 ≤ most → nodes_down most (nodes_of tree) n ≡ tree_order (nodes_of tree) n }
 {}
 
-/// An insertion that is neither refused nor beyond the limit on levels goes through trees of at most 256 levels: once the element was
-/// taken out of where it stood, once it stands at its new place, and once it was adopted there.
+/// An insertion that neither throws nor exceeds the limit on depth goes through trees of at most 256 levels: after the
+/// element is removed from its old place, after it is inserted at its new place, and after it is adopted there.
 pub fn insertions_stay_low()
     ensures { (tree after : Tree) (container : Container) (n : ℕ) (sibling : Option ℕ) → IsWithinLevels tree → IsThere tree container →
         n < length tree.elements → placing container n sibling tree ≡ Did after → IsLowThroughout tree after container n sibling }

@@ -1,4 +1,4 @@
-//! Laws of how deep a page goes: trees of elements, and frames in frames.
+//! Laws on the depth of a page: of trees of elements, and of nested frames.
 #![tactic(auto)]
 
 mod frames;

@@ -1,4 +1,4 @@
-//! Laws of commands, callbacks, ticks and whole runs.
+//! Laws on commands, callbacks, ticks and whole runs.
 
 ghost use Rattle.std.specs.Prelude.{◌≡◌, ◌≤◌, ℕ, List, Option, length};
 ghost use Rattle.std.specs.List.{AllByRecursion};
@@ -19,10 +19,10 @@ ghost use Rattle.document_laws.specs.Levels.{IsWithinLevels};
 
 use crate::levels::levels_are_never_cut_off;
 
-/// Over whole runs elements make trees of at most 256 levels, frames and documents belong together, from each Active document the way
-/// from frame to frame leads up to `top`, and there are at most 64 documents. A script opens in such a world, and ends in one. From any
-/// such world in range each command, a command with its block, a callback, a tick and an item leave one, where the entries that are
-/// handed in are of elements that there are and the handlers are those of the script.
+/// Over whole runs elements form trees of at most 256 levels, frames and documents are consistent, from each Active document
+/// the chain of frames leads up to `top`, and there are at most 64 documents. A script starts and ends in such a world. From
+/// any such world in range each command, a command with its block, a callback, a tick and an item lead to one, if the entries
+/// passed to them are of existing elements and the handlers are those of the script.
 pub fn trees_are_kept()
     ensures opening { (version : Version) → IsWithinLevels (opening_world version).tree }
     ensures steps { (handlers : Handlers) (world : World) → IsInRange (length handlers) world → IsWithinLevels world.tree →
@@ -42,7 +42,8 @@ pub fn trees_are_kept()
     ensures outcomes { (text : List ℕ) → IsWithinLevels (outcome text).world.tree }
 {}
 
-/// On the page that a script leaves, the path from an element to the top of its tree is the same with any bound from 256 on.
+/// On the page that a script leaves, the path from an element to the root of its tree is the same with any bound of at least
+/// 256.
 pub fn paths_of_runs_are_whole()
     ensures { (text : List ℕ) (most n : ℕ) → 256 ≤ most →
         path_up most (nodes_of (outcome text).world.tree) n ≡ path_of (nodes_of (outcome text).world.tree) n }

@@ -13,10 +13,7 @@ use Rattle.element_tree.specs.Links.{node_ids, number, links_at, links_in, walk,
 use Rattle.element_tree.proofs.Lists.{next_here, once_apart, has-append}
 use Rattle.element_tree.proofs.Nodes.{parent_within}
 use Rattle.element_tree.proofs.Levels.{kid_parent}
-
-numbers_back : (o : Option ℕ) → option_map number (node_ids o) ≡ o
-numbers_back None = refl
-numbers_back (Some n) = refl
+use Rattle.element_tree.proofs.Walks.{back_numbers}
 
 all_apart : (x : ℕ) (xs : List ℕ) → has xs x ≡ false → AllByRecursion (λ y. eqb x y ≡ false) xs
 all_apart x [] h = tt
@@ -75,7 +72,7 @@ module _ {P : Type 0} {most : ℕ} {slots : Slab (Entry P)} {nodes : List (Knot 
           let links : links_at slots k ≡ n.links = ap links_in a in
           let up : option_map number (n.links.parent) ≡ x.parent
           = ap (λ (l : Links). option_map number (l.parent)) (sym links) ∙ ap (option_map number) (stands.links k).parent
-          ∙ numbers_back (parent_of nodes k) ∙ ap parent_in b in
+          ∙ back_numbers (parent_of nodes k) ∙ ap parent_in b in
           let down : walk (length nodes) slots (n.links.first) ≡ x.children
           = ap (λ (l : Links). walk (length nodes) slots (l.first)) (sym links) ∙ walk_whole k ∙ ap children_in b in
           let made : P → Option ℕ → List ℕ → Option (Knot P) = λ a b c. Some (record { payload = a; parent = b; children = c }) in

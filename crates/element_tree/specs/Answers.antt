@@ -8,13 +8,13 @@ module _ {P : Type 0} where
   abbrev pub too_deep : Forest P → ℕ → ℕ → Bool
   too_deep f p n = nat_lt f.most_depth (depth f.nodes p + height f.nodes n)
 
-  -- why a node can't be put last under a parent
+  -- why a node can't be appended to a parent
   abbrev pub append_fault : Forest P → ℕ → ℕ → Option TreeFault
   append_fault f p n =
       cond (is_ancestor f.nodes n p) (Some Hierarchy)
       (cond (too_deep f p n) (Some DepthLimit) None)
 
-  -- why a node can't be put under a parent before a sibling
+  -- why a node can't be inserted into a parent before a sibling
   abbrev pub insert_fault : Forest P → ℕ → ℕ → ℕ → Option TreeFault
   insert_fault f p n sibling =
       cond (is_ancestor f.nodes n p) (Some Hierarchy)

@@ -2,12 +2,12 @@
 use Rattle.std.specs.Prelude.{ℕ, zero, suc, ◌==◌, cond, List, [], ◌∷◌, Option, Some, None}
 use Rattle.element_tree.specs.Forest.{Knot, Forest, names, parent_of, siblings_of, next_of}
 
--- a number put into a list before the marked one, at the end where none is marked
+-- a list with a number inserted before the marked one, at the end if none is marked
 abbrev pub put_before : Option ℕ → ℕ → List ℕ → List ℕ
 put_before mark n [] = n ∷ []
 put_before mark n (x ∷ xs) = cond (names mark x) (n ∷ x ∷ xs) (x ∷ put_before mark n xs)
 
--- the list with this number taken out
+-- the list without the first occurrence of this number
 abbrev pub without : ℕ → List ℕ → List ℕ
 without n [] = []
 without n (x ∷ xs) = cond (n == x) xs (x ∷ without n xs)
@@ -28,7 +28,7 @@ module _ {P : Type 0} where
   abbrev pub with_payload : P → Knot P → Knot P
   with_payload payload k = record k { payload = payload }
 
-  -- a node as it is added: detached and with no child
+  -- a node when it is added: it has no parent and no children
   abbrev pub lone : P → Knot P
   lone payload = record { payload = payload; parent = None; children = [] }
 
@@ -36,19 +36,19 @@ module _ {P : Type 0} where
   removed_from None n nodes = nodes
   removed_from (Some p) n nodes = change_at (with_parent None) n (change_at (with_children (without n)) p nodes)
 
-  -- the node taken out of its parent's children, with its subtree; nothing where it has no parent
+  -- remove: the node is removed from its parent's children, with its subtree; nothing changes if it has no parent
   abbrev pub removed : ℕ → List (Knot P) → List (Knot P)
   removed n nodes = removed_from (parent_of nodes n) n nodes
 
-  -- a node that has no parent put among the children of a parent before the marked one, last where none is marked
+  -- a node that has no parent becomes a child of a parent, before the marked child, or the last one if none is marked
   abbrev pub attached : ℕ → ℕ → Option ℕ → List (Knot P) → List (Knot P)
   attached p n mark nodes = change_at (with_parent (Some p)) n (change_at (with_children (put_before mark n)) p nodes)
 
-  -- insert: the node leaves its parent, if it has one, and is then put
+  -- insert: the node is removed from its parent, if it has one, and then attached
   abbrev pub inserted : ℕ → ℕ → Option ℕ → List (Knot P) → List (Knot P)
   inserted p n mark nodes = attached p n mark (removed n nodes)
 
-  -- before which child the node goes: where the named sibling is the node itself, before its next sibling
+  -- the child before which the node is inserted: the named sibling or, where that is the node itself, its next sibling
   abbrev pub mark_of : ℕ → ℕ → List (Knot P) → Option ℕ
   mark_of n sibling nodes = cond (n == sibling) (next_of n (siblings_of nodes n)) (Some sibling)
 

@@ -1,5 +1,5 @@
--- Ordered trees as a plain list of nodes (DOM, 1.1 Trees). A node is named by its place in the list, from 0, and so
--- keeps its name for good.
+-- Ordered trees as a plain list of nodes (DOM, 1.1 Trees). A node is identified by its place in the list, from 0, which never
+-- changes.
 use Rattle.std.specs.Prelude.{◌≡◌, ℕ, zero, suc, ◌+◌, ◌≤◌, max, Bool, false, ◌==◌, ◌||◌, cond, List, [], ◌∷◌, Option, Some, None, unwrap_or, slice_get, refl}
 use Rattle.std.specs.List.{list_any}
 use Rattle.std.specs.Coded.{Coded, code_by, coded×, coded_ℕ, coded_bool, coded_list, coded_option}
@@ -19,7 +19,7 @@ knot_code {P} code =
     (λ p. record { payload = p.0; parent = p.1.0; children = p.1.1 })
     (λ _. refl)
 
--- `ready` tells whether the next node that is added finds its room made
+-- `ready` tells whether the room for the next node that is added was already made
 pub record Forest (P : Type 0) : Type 0 where
   pub nodes : List (Knot P)
   pub most_nodes : ℕ
@@ -35,16 +35,16 @@ forest_code {P} code =
     (λ p. record { nodes = p.0; most_nodes = p.1.0; most_depth = p.1.1.0; ready = p.1.1.1 })
     (λ _. refl)
 
--- the number stands in the list
+-- whether the number is in the list
 abbrev pub has : List ℕ → ℕ → Bool
 has xs n = list_any (λ x. n == x) xs
 
--- the option holds this number
+-- whether the option holds this number
 abbrev pub names : Option ℕ → ℕ → Bool
 names None n = false
 names (Some m) n = n == m
 
--- no number stands in the list twice
+-- no number is in the list twice
 abbrev pub IsOnce : List ℕ → Type 0
 IsOnce [] = Unit {0}
 IsOnce (x ∷ xs) = (has xs x ≡ false) × IsOnce xs
@@ -57,7 +57,7 @@ abbrev pub last_of : List ℕ → Option ℕ
 last_of [] = None
 last_of (x ∷ xs) = Some (unwrap_or (last_of xs) x)
 
--- what stands ahead of a number in a list, and what stands behind it
+-- the part of a list before a number, and the part after it
 abbrev pub ahead : ℕ → List ℕ → List ℕ
 ahead n [] = []
 ahead n (x ∷ xs) = cond (n == x) [] (x ∷ ahead n xs)
@@ -66,14 +66,15 @@ abbrev pub behind : ℕ → List ℕ → List ℕ
 behind n [] = []
 behind n (x ∷ xs) = cond (n == x) xs (behind n xs)
 
--- the next and the previous sibling of a node that stands in this list of children
+-- the next and the previous sibling of a node in this list of children
 abbrev pub next_of : ℕ → List ℕ → Option ℕ
 next_of n xs = first_of (behind n xs)
 
 abbrev pub previous_of : ℕ → List ℕ → Option ℕ
 previous_of n xs = last_of (ahead n xs)
 
--- the list from this number on, where a walk by next siblings stands at it; nothing at the walk's end
+-- the list from this number on: what a walk along the next siblings that is at this number has yet to visit; empty at the walk's
+-- end
 abbrev pub rest_from : Option ℕ → List ℕ → List ℕ
 rest_from None xs = []
 rest_from (Some n) [] = []
@@ -98,7 +99,7 @@ module _ {P : Type 0} where
   abbrev pub children_of : List (Knot P) → ℕ → List ℕ
   children_of nodes n = children_in (slice_get nodes n)
 
-  -- the children of the parent, the node itself among them; none where it has no parent
+  -- the children of the node's parent, including the node itself; none if it has no parent
   abbrev pub children_under : List (Knot P) → Option ℕ → List ℕ
   children_under nodes None = []
   children_under nodes (Some p) = children_of nodes p
@@ -118,17 +119,18 @@ abbrev pub greatest : (ℕ → ℕ) → List ℕ → ℕ
 greatest f [] = 0
 greatest f (x ∷ xs) = max (f x) (greatest f xs)
 
--- how many nodes stand on the path from the node up to its root, both included, of so many that are looked at
+-- the number of nodes on the path from the node up to its root, both included, counting at most a given number
 unfoldable pub depth_up : ℕ → (ℕ → Option ℕ) → ℕ → ℕ
 depth_up zero parent n = 0
 depth_up (suc high) parent n = suc (above (depth_up high parent) (parent n))
 
--- whether the first node stands on the path from the second up to its root, both ends included
+-- whether the first node is among the first nodes, at most a given number, on the path from the second up to its root, both ends
+-- included
 unfoldable pub on_path : ℕ → (ℕ → Option ℕ) → ℕ → ℕ → Bool
 on_path zero parent a n = false
 on_path (suc high) parent a n = (a == n) || is_above (on_path high parent a) (parent n)
 
--- how many levels the tree below the node has, its own included
+-- the number of levels of the tree below the node, including its own, counting at most a given number
 unfoldable pub height_down : ℕ → (ℕ → List ℕ) → ℕ → ℕ
 height_down zero children n = 0
 height_down (suc deep) children n = suc (greatest (height_down deep children) (children n))
@@ -146,8 +148,8 @@ module _ {P : Type 0} where
   unfoldable pub is_ancestor : List (Knot P) → ℕ → ℕ → Bool
   is_ancestor nodes a n = on_path most_levels (parent_of nodes) a n
 
-  -- lists of children and parents agree, no node is listed twice, and each node stands one level below its parent,
-  -- so that no node is its own ancestor
+  -- lists of children and parents agree, no node is listed twice, and each node is one level below its parent, so that no node is
+  -- its own ancestor
   pub record IsForest (most_depth : ℕ) (nodes : List (Knot P)) : Type 0 where
     pub listed : (p c : ℕ) → has (children_of nodes p) c ≡ names (parent_of nodes c) p
     pub once : (p : ℕ) → IsOnce (children_of nodes p)

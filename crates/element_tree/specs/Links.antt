@@ -1,4 +1,4 @@
--- How the links of the nodes stand for lists of children.
+-- How the links of the nodes represent lists of children.
 use Rattle.std.specs.Prelude.{◌≡◌, ℕ, zero, suc, ◌+◌, ◌≤◌, Bool, ◌&&◌, ◌==◌, nat_eq, nat_le, false, cond, List, [], ◌∷◌, length, Option, Some, None, option_map, slice_get, IsSome, filter_map}
 use Rattle.std.specs.List.{range_with_len}
 use Rattle.std.specs.Option.{ForSome}
@@ -21,16 +21,16 @@ node_ids o = option_map node_id o
 abbrev pub no_links : Links
 no_links = record { parent = None; first = None; last = None; next = None; previous = None }
 
--- the links with one node's exchanged
+-- the links with those of one node replaced
 abbrev pub put : (ℕ → Links) → ℕ → Links → ℕ → Links
 put t k links m = cond (m == k) links (t m)
 
--- the links once this node follows the previous one among the children of a parent, as the first where there is none
+-- the links after `node` was made the next sibling of the previous one, or the parent's first child if there is no previous one
 abbrev pub following : (ℕ → Links) → ℕ → Option NodeId → Option NodeId → ℕ → Links
 following t p None node = put t p (record (t p) { first = node })
 following t p (Some q) node = put t q.0 (record (t q.0) { next = node })
 
--- the links once this node leads the next one, as the last where there is none
+-- the links after `node` was made the previous sibling of the next one, or the parent's last child if there is no next one
 abbrev pub leading : (ℕ → Links) → ℕ → Option NodeId → Option NodeId → ℕ → Links
 leading t p None node = put t p (record (t p) { last = node })
 leading t p (Some s) node = put t s.0 (record (t s.0) { previous = node })
@@ -41,16 +41,16 @@ unlinked_from (Some p) n t =
     let joined = leading (following t p.0 (t n).previous (t n).next) p.0 (t n).next (t n).previous in
     put joined n (record (joined n) { parent = None; next = None; previous = None })
 
--- the links once a node has left its parent
+-- the links after a node was removed from its parent
 abbrev pub unlinked : (ℕ → Links) → ℕ → ℕ → Links
 unlinked t n = unlinked_from (t n).parent n t
 
--- the node that comes to stand ahead of one that is put before the marked node
+-- the previous sibling of a node that is inserted before the marked one, or as the last child if none is marked
 abbrev pub previous_at : (ℕ → Links) → ℕ → Option NodeId → Option NodeId
 previous_at t p None = (t p).last
 previous_at t p (Some s) = (t s.0).previous
 
--- the links once a node stands among the children of a parent before the marked one
+-- the links after a node became a child of a parent, before the marked one or as the last
 abbrev pub linked : (ℕ → Links) → ℕ → ℕ → Option NodeId → ℕ → Links
 linked t p n mark =
     let joined = leading (following t p (previous_at t p mark) (Some (node_id n))) p mark (Some (node_id n)) in
@@ -67,7 +67,7 @@ module _ {P : Type 0} where
   abbrev pub payload_at : Slab (Entry P) → ℕ → Option P
   payload_at slots n = option_map (λ e. e.payload) (get slots n)
 
-  -- the slab has other links, and the same payloads and room
+  -- the slab has these links, and the same payloads and room as before
   pub record IsRelinked (old new : Slab (Entry P)) (t : ℕ → Links) : Type 0 where
     pub links : (m : ℕ) → links_at new m ≡ t m
     pub payloads : (m : ℕ) → payload_at new m ≡ payload_at old m
@@ -90,7 +90,7 @@ module _ {P : Type 0} where
   walked walk slots None = []
   walked walk slots (Some n) = n.0 ∷ walk (links_at slots n.0).next
 
-  -- the nodes from one on along the next siblings, of so many that are looked at
+  -- the nodes from one on along the next siblings, at most a given number of them
   unfoldable pub walk : ℕ → Slab (Entry P) → Option NodeId → List ℕ
   walk zero slots from = []
   walk (suc most) slots from = walked (walk most slots) slots from
@@ -102,16 +102,16 @@ module _ {P : Type 0} where
     children = walk most slots (e.links.first);
   }
 
-  -- the list of nodes that the slab stands for
+  -- the list of nodes that the slab represents
   unfoldable pub nodes_of : Slab (Entry P) → ℕ → List (Knot P)
   nodes_of slots count =
       filter_map (λ k. option_map (knot_of count slots) (get slots k)) (range_with_len 0 count)
 
-  -- the next node finds its key and its room
+  -- whether the next node gets the key `count`, and there is room for it
   abbrev pub is_ready : Slab (Entry P) → ℕ → Bool
   is_ready slots count = (slots.vacant_key == count) && nat_le (slab_len slots + 1) slots.capacity
 
-  -- the links of a node say where it stands in the lists of children
+  -- the links of a node agree with the lists of children
   pub record IsLinkedIn (nodes : List (Knot P)) (links : Links) (n : ℕ) : Type 0 where
     pub parent : links.parent ≡ node_ids (parent_of nodes n)
     pub first : links.first ≡ node_ids (first_of (children_of nodes n))
@@ -119,19 +119,19 @@ module _ {P : Type 0} where
     pub next : links.next ≡ node_ids (next_of n (siblings_of nodes n))
     pub previous : links.previous ≡ node_ids (previous_of n (siblings_of nodes n))
 
-  -- the slab stands for this forest
+  -- the slab represents this forest
   pub record Stands (most_depth : ℕ) (slots : Slab (Entry P)) (nodes : List (Knot P)) : Type 0 where
     pub payloads : (n : ℕ) → payload_at slots n ≡ option_map (λ k. k.payload) (slice_get nodes n)
     pub links : (n : ℕ) → IsLinkedIn nodes (links_at slots n) n
     pub forest : IsForest most_depth nodes
 
-  -- the slab and the counts of a tree belong together
+  -- the slab and the counts of a tree agree
   pub record IsSound (slots : Slab (Entry P)) (count most_nodes most_depth : ℕ) : Type 0 where
     pub stands : Stands most_depth slots (nodes_of slots count)
     pub counted : length (nodes_of slots count) ≡ count
     pub within : count ≤ most_nodes
 
-  -- a node can be put before this one
+  -- a child of the parent, other than the node, before which the node can be inserted
   pub record IsMark (nodes : List (Knot P)) (p n s : ℕ) : Type 0 where
     pub child : parent_of nodes s ≡ Some p
     pub other : nat_eq s n ≡ false

@@ -1,6 +1,5 @@
-//! A document's name.
+//! Document ids.
 
-/// The name of a document: its number, from 0 in order of making; 0 is the page's own document, `top` (DOM, 4.5: document), which
-/// is the default.
+/// Identifies a document (DOM, 4.5) by its number, from 0 in creation order. 0, the default, is the page's own document, `top`.
 #[derive(Clone, Copy, PartialEq, Eq, Hash, Debug, Default)]
 pub struct DocumentId(pub u32);

@@ -1,23 +1,23 @@
-//! Why a call of a tree is refused.
+//! Errors of the tree's calls.
 
 use thiserror::Error;
 
-/// Why a call of a tree is refused. A refused call changes nothing.
+/// Why a call fails. A call that fails changes no node.
 #[derive(Debug, Drop, Error)]
 pub enum TreeFault {
-    /// The node is the parent that it was to be put under, or an ancestor of it.
-    #[error("the node is the parent or an ancestor of it")]
+    /// The node is an inclusive ancestor of the parent that it was to be inserted into.
+    #[error("the node is an inclusive ancestor of the parent")]
     Hierarchy,
     /// The named sibling isn't a child of the parent.
     #[error("the sibling is not a child of the parent")]
     NotAChild,
-    /// As many nodes as the tree may have were added.
-    #[error("as many nodes as there may be were added")]
+    /// The maximum number of nodes has already been added.
+    #[error("the maximum number of nodes has been added")]
     NodeLimit,
-    /// The node's subtree would reach too deep below the parent.
-    #[error("the subtree would reach too deep")]
+    /// Below the parent, the node's subtree would exceed the maximum depth.
+    #[error("the subtree would exceed the maximum depth")]
     DepthLimit,
-    /// There is no memory.
+    /// Out of memory.
     #[error("out of memory")]
     Memory,
 }

@@ -1,4 +1,4 @@
-//! An ordered tree with DOM's rules of insertion.
+//! An ordered tree with the DOM's insertion rules.
 #![tactic(auto)]
 
 mod container;

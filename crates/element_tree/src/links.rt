@@ -1,4 +1,4 @@
-//! The links in the slab: read, written, and changed as a node leaves or enters a list of children.
+//! The links in the slab: reading, writing, and relinking as a node is removed from or inserted into a list of children.
 ghost use Rattle.std.specs.Prelude.{◌≡◌, IsSome};
 ghost use Rattle.std.specs.Option.{ForSome};
 ghost use Rattle.element_tree.specs.Links.{no_links, links_at, payload_at, put, following, leading, unlinked, linked, previous_at, IsRelinked, IsClosed};
@@ -36,7 +36,7 @@ fn set_links<P>(slots: &mut Slab<Entry<P>>, node: NodeId, links: Links)
     slots[node.0 as usize].links = links;
 }
 
-// `node` comes to follow `previous` among the children of a parent, as the first where there is no previous one.
+// Makes `node` follow `previous` among the children of a parent, or be its first child if there is no previous one.
 fn set_following<P>(
     slots: &mut Slab<Entry<P>>,
     parent: NodeId,
@@ -73,7 +73,7 @@ fn set_following<P>(
     }
 }
 
-// `node` comes to lead `next` among the children of a parent, as the last where there is no next one.
+// Makes `node` precede `next` among the children of a parent, or be its last child if there is no next one.
 fn set_leading<P>(
     slots: &mut Slab<Entry<P>>,
     parent: NodeId,
@@ -110,7 +110,7 @@ fn set_leading<P>(
     }
 }
 
-// Takes a node out of its parent's children.
+// Removes a node from its parent's children.
 pub(crate) fn unlink<P>(slots: &mut Slab<Entry<P>>, node: NodeId)
     requires node { IsSome (payload_at slots.old node.0) }
     requires closed { IsClosed slots.old }
@@ -130,7 +130,7 @@ pub(crate) fn unlink<P>(slots: &mut Slab<Entry<P>>, node: NodeId)
     }
 }
 
-// The node ahead of the marked one, the last where none is marked.
+// Returns the sibling before `mark`, or the last child without a mark.
 fn previous_to<P>(slots: &Slab<Entry<P>>, parent: NodeId, mark: Option<NodeId>) -> Option<NodeId>
     ensures { result ≡ previous_at (links_at slots.now) parent.0 mark }
 {
@@ -140,7 +140,7 @@ fn previous_to<P>(slots: &Slab<Entry<P>>, parent: NodeId, mark: Option<NodeId>) 
     }
 }
 
-// Puts a node that has no parent among the children of `parent` before the marked one, last where none is marked.
+// Inserts a node that has no parent into the children of `parent` before `mark`, or last without a mark.
 pub(crate) fn link<P>(
     slots: &mut Slab<Entry<P>>,
     parent: NodeId,

@@ -1,10 +1,10 @@
-//! A node's name, and what the tree keeps of a node.
+//! Node ids, and what the tree stores per node.
 
-/// The name of a node: its number in its tree, from 0 in order of making. It stays a node's own for good.
+/// Identifies a node by its number in its tree, from 0 in creation order. A number is never reused.
 #[derive(Clone, Copy, PartialEq, Eq, Debug)]
 pub struct NodeId(pub u32);
 
-// Where a node stands: `first` and `last` are its children, `next` and `previous` its siblings.
+// A node's links: `first` and `last` are its children, `next` and `previous` its siblings.
 #[derive(Clone, Copy)]
 pub(crate) struct Links {
     pub(crate) parent: Option<NodeId>,

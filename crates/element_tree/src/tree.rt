@@ -1,4 +1,4 @@
-//! The tree: its calls, each said in terms of a plain list of nodes.
+//! The tree. Contracts describe each call in terms of a plain list of nodes.
 ghost use Rattle.std.specs.Prelude.{◌≡◌, ℕ, ◌+◌, ◌<◌, ◌≤◌, ◌++◌, ◌∷◌, [], length, slice_get, option_map, Some, nat_lt, IfOk, OnOk, OnErr, IfErr, IsOk, IsErr, Err, ◌≢◌, MatchResult, None, true, false};
 ghost use Rattle.element_tree.specs.Forest.{IsForest, parent_of, children_of, siblings_of, first_of, last_of, next_of, previous_of, depth, height, is_ancestor, names, most_levels};
 ghost use Rattle.element_tree.specs.Edits.{inserted, removed, mark_of, lone, with_nodes};
@@ -16,10 +16,10 @@ use slab::Slab;
 use std::alloc::Global;
 use std::marker::Model;
 
-/// Nodes in ordered trees, each with a payload. A contract sees them as a plain list of nodes (`specs/Forest.antt`).
+/// A set of ordered trees whose nodes each have a payload. A contract sees a plain list of nodes (`specs/Forest.antt`).
 ///
-/// Nodes are numbered from 0 in order of making, and a number is never used again. Reading a sibling and moving a
-/// node without children take constant time besides one climb to the root.
+/// Nodes are numbered from 0 in creation order, and a number is never reused. Reading a sibling takes constant time;
+/// moving a node without children takes time proportional to the depth of its new parent.
 #[derive(Drop)]
 pub struct Tree<P> {
     slots: Slab<Entry<P>>,
@@ -43,7 +43,7 @@ impl<P> Model for Tree<P> {
 }
 
 impl<P> Tree<P> {
-    /// The parent of a node; none of a root, and of a node that this tree doesn't hold.
+    /// Returns the parent of a node, or `None` for a root and for a node that isn't in this tree.
     pub fn parent(&self, node: NodeId) -> Option<NodeId>
         ensures value { result ≡ node_ids (parent_of self.now.nodes node.0) }
         ensures forest { IsForest self.now.most_depth self.now.nodes }
@@ -51,7 +51,7 @@ impl<P> Tree<P> {
         links_of(&self.slots, node).parent
     }
 
-    /// The first of the node's children; none where it has none.
+    /// Returns the first child of a node, or `None` if it has no children.
     pub fn first_child(&self, node: NodeId) -> Option<NodeId>
         ensures value { result ≡ node_ids (first_of (children_of self.now.nodes node.0)) }
         ensures forest { IsForest self.now.most_depth self.now.nodes }
@@ -59,7 +59,7 @@ impl<P> Tree<P> {
         links_of(&self.slots, node).first
     }
 
-    /// The last of the node's children; none where it has none.
+    /// Returns the last child of a node, or `None` if it has no children.
     pub fn last_child(&self, node: NodeId) -> Option<NodeId>
         ensures value { result ≡ node_ids (last_of (children_of self.now.nodes node.0)) }
         ensures forest { IsForest self.now.most_depth self.now.nodes }
@@ -67,7 +67,7 @@ impl<P> Tree<P> {
         links_of(&self.slots, node).last
     }
 
-    /// The sibling right behind a node; none for the last child and for a root.
+    /// Returns the next sibling of a node, or `None` for a last child and for a root.
     pub fn next_sibling(&self, node: NodeId) -> Option<NodeId>
         ensures value { result ≡ node_ids (next_of node.0 (siblings_of self.now.nodes node.0)) }
         ensures forest { IsForest self.now.most_depth self.now.nodes }
@@ -75,7 +75,7 @@ impl<P> Tree<P> {
         links_of(&self.slots, node).next
     }
 
-    /// The sibling right ahead of a node; none for the first child and for a root.
+    /// Returns the previous sibling of a node, or `None` for a first child and for a root.
     pub fn previous_sibling(&self, node: NodeId) -> Option<NodeId>
         ensures value { result ≡ node_ids (previous_of node.0 (siblings_of self.now.nodes node.0)) }
         ensures forest { IsForest self.now.most_depth self.now.nodes }
@@ -83,7 +83,7 @@ impl<P> Tree<P> {
         links_of(&self.slots, node).previous
     }
 
-    /// Whether this tree gave the node.
+    /// Whether the tree has a node of this number.
     pub fn holds(&self, node: NodeId) -> bool
         ensures value { result ≡ nat_lt node.0 (length self.now.nodes) }
         ensures forest { IsForest self.now.most_depth self.now.nodes }
@@ -91,7 +91,8 @@ impl<P> Tree<P> {
         node.0 < self.count
     }
 
-    /// The depth of a node: how many nodes stand on the path to its root, both included, so 1 at a root. It climbs.
+    /// Returns the depth of a node: the number of nodes on the path to its root, both included, so 1 for a root. Walks up to
+    /// the root.
     pub fn depth(&self, node: NodeId) -> u32
         ensures value { result ≡ depth self.now.nodes node.0 }
         ensures forest { IsForest self.now.most_depth self.now.nodes }
@@ -105,9 +106,9 @@ impl<P> Tree<P> {
         depth
     }
 
-    /// An empty tree, which takes no memory yet.
+    /// Creates an empty tree; allocates nothing.
     ///
-    /// At most `most_nodes` nodes are added, and no node comes deeper than `most_depth`, which is from 1 to 65,536.
+    /// At most `most_nodes` nodes can be added, and no node gets deeper than `most_depth`, which must be from 1 to 65,536.
     pub fn new(alloc: Global, most_nodes: u32, most_depth: u32) -> Tree<P>
         requires low { 1 ≤ most_depth }
         requires high { most_depth ≤ most_levels }
@@ -123,10 +124,11 @@ impl<P> Tree<P> {
         }
     }
 
-    /// Makes room for one node, and tells the number that the next `add` gives. No node is added.
+    /// Makes room for one node, so that the next `add` can't fail with `Memory`, and returns the number that it will give.
+    /// No node is added, and nothing else changes.
     ///
-    /// That `add` doesn't answer `Memory`. `NodeLimit` comes exactly where `most_nodes` were added; else `Memory` where
-    /// there is none. Besides the room nothing changes.
+    /// # Errors
+    /// `NodeLimit` exactly where `most_nodes` nodes have already been added; otherwise `Memory` if an allocation fails.
     pub fn reserve(&mut self) -> Result<NodeId, TreeFault>
         ensures node { IfOk result (λ node. node.0 ≡ length self.old.nodes) }
         ensures ready { OnOk result (self.new.ready ≡ true) }
@@ -148,9 +150,11 @@ impl<P> Tree<P> {
         Ok(NodeId(self.count))
     }
 
-    /// Adds a node that has no parent and no child, and gives its number. A refused payload is handed back.
+    /// Adds a node without parent and children, and returns its number.
     ///
-    /// `NodeLimit` comes exactly where `most_nodes` were added; else `Memory` where there is none.
+    /// # Errors
+    /// `NodeLimit` exactly where `most_nodes` nodes have already been added; otherwise `Memory` if an allocation fails. The
+    /// payload is returned with the error.
     pub fn add(&mut self, payload: P) -> Result<NodeId, (TreeFault, P)>
         ensures node { IfOk result (λ node. node.0 ≡ length self.old.nodes) }
         ensures added { OnOk result (self.new ≡ record self.old { nodes = self.old.nodes ++ lone payload ∷ []; ready = self.new.ready }) }
@@ -179,7 +183,7 @@ impl<P> Tree<P> {
         Ok(node)
     }
 
-    /// Takes a node out of its parent's children, with its subtree. Nothing where it has no parent.
+    /// Removes a node, with its subtree, from its parent's children. Does nothing if it has no parent.
     pub fn remove(&mut self, node: NodeId)
         requires { node.0 < length self.old.nodes }
         ensures removed { self.new ≡ with_nodes (removed node.0) self.old }
@@ -188,7 +192,7 @@ impl<P> Tree<P> {
         unlink(&mut self.slots, node);
     }
 
-    /// Whether the first node is the second or an ancestor of it (DOM, 1.1 inclusive ancestor).
+    /// Whether `ancestor` is an inclusive ancestor of `node` (DOM, 1.1).
     pub fn is_ancestor(&self, ancestor: NodeId, node: NodeId) -> bool
         ensures { result ≡ is_ancestor self.now.nodes ancestor.0 node.0 }
     {
@@ -202,10 +206,10 @@ impl<P> Tree<P> {
         false
     }
 
-    /// How many levels the subtree of a node has, its own included.
+    /// Returns how many levels the subtree of a node has, its own included.
     ///
-    /// It walks the subtree, and calls itself once a level: a tree of 2,000 levels was tried, while some 5,000 may use
-    /// up the stack. So keep `most_depth` below that where stacks are as small.
+    /// It walks the subtree and recurses once per level: 2,000 levels have been tried, while some 5,000 may overflow the
+    /// stack. Choose `most_depth` accordingly.
     pub fn height(&self, node: NodeId) -> u32
         ensures value { result ≡ height self.now.nodes node.0 }
         ensures forest { IsForest self.now.most_depth self.now.nodes }
@@ -219,7 +223,7 @@ impl<P> Tree<P> {
         below + 1
     }
 
-    /// What a node carries.
+    /// Returns a node's payload.
     pub fn payload(&self, node: NodeId) -> &P
         requires { node.0 < length self.now.nodes }
         ensures value { option_map (λ k. k.payload) (slice_get self.now.nodes node.0) ≡ Some result.now }
@@ -228,7 +232,7 @@ impl<P> Tree<P> {
         &self.slots[node.0 as usize].payload
     }
 
-    /// What a node carries, for writing.
+    /// Returns a mutable reference to a node's payload; nothing else of the tree changes through it.
     pub fn payload_mut(&mut self, node: NodeId) -> &mut P
         requires { node.0 < length self.old.nodes }
         ensures* writes_back { sem 𝓛 (lends_payload P.row self.entry node.0 result) }
@@ -238,10 +242,12 @@ impl<P> Tree<P> {
         &mut entry.payload
     }
 
-    /// Puts a node, with its subtree, last among the children of a parent (DOM, 4.2.3 append). It leaves its old parent.
+    /// Inserts a node, with its subtree, as the last child of a parent (DOM, 4.2.3 append). It is first removed from its old
+    /// parent. Allocates nothing.
     ///
-    /// Refused, with nothing changed, by `Hierarchy` where the node is an inclusive ancestor of the parent, then by
-    /// `DepthLimit` where the depth of the parent and the height of the node together pass `most_depth`. No memory.
+    /// # Errors
+    /// `Hierarchy` if the node is an inclusive ancestor of the parent; otherwise `DepthLimit` if the depth of the parent plus
+    /// the height of the node exceeds `most_depth`. Nothing changes then.
     pub fn append(&mut self, parent: NodeId, child: NodeId) -> Result<(), TreeFault>
         requires parent { parent.0 < length self.old.nodes }
         requires child { child.0 < length self.old.nodes }
@@ -260,12 +266,13 @@ impl<P> Tree<P> {
         Ok(())
     }
 
-    /// Puts a node, with its subtree, among the children of a parent before a sibling (DOM, 4.2.3 insert). It leaves
-    /// its old parent. Where the named sibling is the node itself, its next sibling takes its place.
+    /// Inserts a node, with its subtree, into the children of a parent before a sibling (DOM, 4.2.3 insert). It is first
+    /// removed from its old parent. If `sibling` is the node itself, its next sibling is used instead. Allocates nothing.
     ///
-    /// Refused, with nothing changed, by `Hierarchy` where the node is an inclusive ancestor of the parent, then by
-    /// `NotAChild` where the sibling isn't a child of the parent, then by `DepthLimit` where the depth of the parent and
-    /// the height of the node together pass `most_depth`. No memory.
+    /// # Errors
+    /// `Hierarchy` if the node is an inclusive ancestor of the parent; otherwise `NotAChild` if the sibling isn't a child of
+    /// the parent; otherwise `DepthLimit` if the depth of the parent plus the height of the node exceeds `most_depth`.
+    /// Nothing changes then.
     pub fn insert_before(
         &mut self,
         parent: NodeId,
@@ -309,7 +316,7 @@ impl<P> Tree<P> {
         }
     }
 
-    // The sibling that a node goes before, none where it goes to the end.
+    // Returns the sibling that the node is to be inserted before, or `None` if it goes last.
     fn mark(&self, child: NodeId, sibling: NodeId) -> Option<NodeId>
         ensures value { result ≡ node_ids (mark_of child.0 sibling.0 self.now.nodes) }
         ensures mark { (p : ℕ) → parent_of self.now.nodes sibling.0 ≡ Some p → ForSome result (λ s. IsMark self.now.nodes p child.0 s.0) }
@@ -321,7 +328,7 @@ impl<P> Tree<P> {
         }
     }
 
-    // Moves a node, with its subtree, before the marked child of a parent, to the end where none is marked.
+    // Moves a node, with its subtree, before the child `mark` of a parent, or to the end without a mark.
     fn place(&mut self, parent: NodeId, child: NodeId, mark: Option<NodeId>)
         requires parent { parent.0 < length self.old.nodes }
         requires child { child.0 < length self.old.nodes }

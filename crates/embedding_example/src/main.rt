@@ -1,4 +1,4 @@
-//! A host of its own: it replays a script that it holds in memory, writes the trace, and reads the page that it is handed.
+//! An embedding host: it replays a script held in memory, writes the trace, and reads the returned page.
 #![tactic(auto)]
 
 ghost use Rattle.std.specs.Prelude.{◌≡◌, ◌<◌};
@@ -15,7 +15,7 @@ use text_io::{MemorySource, StdSink};
 const SCRIPT: &[u8] =
     b"script 1\nblock card top\nappend top card\nset card height 120px\nro sizes top -\nro-observe sizes card content\ntick 0\n";
 
-// The box of the first element that the script made.
+// Writes the box of the first element that the script created.
 fn show_card<L: Ledger>(rt: &HostRuntime, mut page: Page, steps: &mut Steps<L>) -> io::Result<()> {
     page.refresh_boxes(steps);
     let card = page.geometry().border_rect(NodeId(0));

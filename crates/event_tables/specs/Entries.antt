@@ -1,4 +1,4 @@
--- Entries of a table as they are kept: by serial number with a key each, and by key the serial numbers.
+-- Entries of a table as they are kept: by serial number, each with its key, and the serial numbers by key.
 use Rattle.std.specs.Prelude.{◌≡◌, ℕ, ◌<◌, Bool, List, map}
 use Rattle.std.specs.List.{AllByRecursion, IsDistinct}
 use Rattle.std.specs.List.Sorted.{IsStrictlySortedBy}
@@ -17,7 +17,8 @@ has_key same key entry = same key entry.1.0
 abbrev pub numbered : {K V : Type 0} → List (Entry K V) → List (K × ℕ)
 numbered entries = map (λ (entry : Entry _ _). (entry.1.0, entry.0)) entries
 
--- entries in order of their serial numbers, all of them given, with keys that differ, and under each key its entry's number
+-- the entries are in order of their serial numbers, which were all given; their keys differ, and `serials` has each entry's
+-- number under its key
 pub record IsIndexed {K V : Type 0} (same : K → K → Bool) (given : ℕ) (entries : List (Entry K V)) (serials : List (K × ℕ)) : Type 0 where
   pub ordered : IsStrictlySortedBy nat_cmp (keys_of entries)
   pub below : AllByRecursion (λ (serial : ℕ). serial < given) (keys_of entries)

@@ -2,12 +2,12 @@
 use Rattle.std.specs.Prelude.{Bool, cond, List, [], ◌∷◌, Option, Some, None}
 use Rattle.page_model.specs.Runs.{Said, silent, ◌followed_by◌, for_each, only_if}
 
--- what a batch still has once the first entry that passes the test was handed out: those behind it
+-- the rest of a batch after the first entry that passes the test was handed out: the entries behind it
 abbrev pub behind_first : {A : Type 0} → (A → Bool) → List A → List A
 behind_first test [] = []
 behind_first test (x ∷ xs) = cond (test x) xs (behind_first test xs)
 
--- each entry is run where it still stands at its turn
+-- each entry is run if it is still there at its turn
 abbrev pub one_by_one : {A S : Type 0} → (A → S → Bool) → (A → S → Said S) → List A → S → Said S
 one_by_one stands run entries state = for_each (λ entry now. only_if (run entry) now (stands entry now)) entries state
 

@@ -36,7 +36,7 @@ abbrev pub seen_copy : Listener → model.Listener
 seen_copy it =
     record { serial = it.serial; target = seen_key it.key.target; event = it.key.kind; handler = it.key.handler.0 }
 
--- a callback that was copied: a frame callback, or what a timer has but for its due time
+-- a callback that was copied: a frame callback, or a timer without its due time
 abbrev pub seen_callback : Callback → model.FrameCallback
 seen_callback it = record { serial = it.serial; document = it.key.document.0; key = it.key.key; handler = it.handler.0 }
 

@@ -1,4 +1,4 @@
--- A table of a world, and how many entries may be held in it.
+-- A table of a world, and the limit on its entries.
 use Rattle.std.specs.Prelude.{ℕ, Bool, nat_lt, length, map}
 use Rattle.page_model.specs.World.{Table}
 

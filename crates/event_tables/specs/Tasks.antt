@@ -1,14 +1,14 @@
--- The tasks that wait, and how many posted ones may.
+-- The queued tasks, and the limit on posted ones.
 use Rattle.std.specs.Prelude.{ℕ, Bool, not, ◌||◌, nat_lt, List, [], ◌∷◌, Option, Some, None}
 use Rattle.page_model.specs.World.{Task}
 use Rattle.page_model.specs.Tasks.{is_posted, posted_tasks}
 
--- those that wait in order, and how many posted ones may wait
+-- the queued tasks in order, and how many posted ones there may be
 pub record WaitingTasks : Type 0 where
   pub part : List Task
   pub most : ℕ
 
--- whether one more posted task may wait
+-- whether one more posted task may be queued
 abbrev pub has_room : WaitingTasks → Bool
 has_room it = nat_lt (posted_tasks it.part) it.most
 

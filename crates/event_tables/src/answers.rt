@@ -1,17 +1,17 @@
-//! Why a call is refused.
+//! The errors of the tables.
 
 use thiserror::Error;
 
-/// Why a call is refused. A refused call changes nothing.
+/// Why a call failed. A call that fails changes nothing.
 #[derive(Clone, Copy, Debug, PartialEq, Eq, Error)]
 pub enum TableFault {
-    /// The document has the key already.
-    #[error("the document has the key already")]
+    /// The key is already in use in the document.
+    #[error("the key is already in use in the document")]
     Taken,
-    /// As many as there may be are there.
-    #[error("as many as there may be are there")]
+    /// The maximum number is already present.
+    #[error("the maximum number is already present")]
     Limit,
-    /// There is no memory.
+    /// Out of memory.
     #[error("out of memory")]
     Memory,
 }

@@ -1,4 +1,4 @@
-//! What frame callbacks and timers have in common: the key of each, and batches of those that are run.
+//! What frame callbacks and timers share: their keys, and batches of those to be run.
 
 ghost use Rattle.std.specs.Prelude.{◌≡◌, [], ◌∷◌, ◌++◌, OnOk, MatchOption};
 ghost use Rattle.event_tables.specs.Seen.{seen_callback};
@@ -10,14 +10,14 @@ use std::collections::VecDeque;
 use std::marker::Model;
 use text_io::Name;
 
-/// A key of a document.
+/// A key within a document.
 #[derive(Clone, Copy, PartialEq, Eq, Hash)]
 pub(crate) struct DocumentKey {
     pub(crate) document: DocumentId,
     pub(crate) key: Name,
 }
 
-/// A callback that was copied.
+/// A copied callback.
 #[derive(Clone, Copy)]
 pub(crate) struct Callback {
     pub(crate) serial: u64,
@@ -25,8 +25,8 @@ pub(crate) struct Callback {
     pub(crate) handler: HandlerId,
 }
 
-/// Frame callbacks or timers that were copied as a batch began, and weren't handed out yet. A clause sees them as a list of
-/// callbacks.
+/// The frame callbacks or timers that were copied when a batch began, and that `next` hasn't taken yet. Contracts see them as
+/// a list of callbacks.
 #[derive(Drop)]
 pub struct Batch {
     left: VecDeque<Callback>,
@@ -59,7 +59,7 @@ impl Batch {
         Ok(())
     }
 
-    // Takes the first one off.
+    // Removes the first one.
     pub(crate) fn pop(&mut self) -> Option<Callback>
         ensures { MatchOption result ((self.old ≡ []) × (self.new ≡ [])) (λ callback. self.old ≡ seen_callback callback ∷ self.new) }
     {

@@ -1,5 +1,4 @@
-//! Entries in order of making, each under a key of its own: what the tables of listeners, frame callbacks and timers have in
-//! common.
+//! Entries in creation order, each under a unique key: what the tables of listeners, frame callbacks and timers share.
 
 ghost use Rattle.std.specs.Prelude.{◌≡◌, ◌<◌, ◌≤◌, ◌+◌, ◌-◌, ◌^◌, [], ◌==◌, false, not, OnOk, OnErr};
 ghost use Rattle.std.specs.List.{list_any};
@@ -15,12 +14,12 @@ use std::collections::BTreeMap;
 use std::hash::Hash;
 use std::marker::Model;
 
-/// Entries in order of making. A clause sees a table of a world, of serial numbers with what is kept under each, and how many
-/// there may be. Each look-up is by a hash or goes down a tree, whatever stands in front of the entry.
+/// Entries in creation order. Contracts see a table of a world, which maps serial numbers to entries, and the limit. Each
+/// look-up hashes a key or descends a B-tree; none scans the entries.
 #[derive(Drop)]
 pub(crate) struct Entries<K: Eq + Hash, V> {
     given: u64,
-    // By serial number, which is the order of making.
+    // By serial number, which is the creation order.
     held: BTreeMap<u64, (K, V)>,
     // The serial number of the entry of each key.
     serials: IndexMap<K, u64>,
@@ -41,7 +40,7 @@ impl<K: Eq + Hash, V> Model for Entries<K, V> {
 }
 
 impl<K: Copy + Eq + Hash, V: Copy> Entries<K, V> {
-    /// No entries, which take no memory yet. At most `most` can be held.
+    /// Creates an empty set of entries; allocates nothing. At most `most` can be held.
     pub(crate) fn new(alloc: Global, most: u32) -> Entries<K, V>
         ensures { result ≡ record { part = record { given = 0; held = [] }; most = most } }
     {
@@ -57,7 +56,7 @@ impl<K: Copy + Eq + Hash, V: Copy> Entries<K, V> {
         *self.serials.allocator()
     }
 
-    /// The entries by serial number.
+    /// Returns the entries by serial number.
     pub(crate) fn held(&self) -> &BTreeMap<u64, (K, V)>
         ensures { result.now.entries ≡ self.now.part.held }
     {
@@ -76,14 +75,14 @@ impl<K: Copy + Eq + Hash, V: Copy> Entries<K, V> {
         self.serials.contains_key(&key)
     }
 
-    /// Whether the entry of a serial number is held.
+    /// Whether there is an entry with this serial number.
     pub(crate) fn has_serial(&self, serial: u64) -> bool
         ensures { result ≡ list_any (λ (entry : Entry K V). entry.0 == serial) self.now.part.held }
     {
         self.held.contains_key(&serial)
     }
 
-    /// Enters a value under a key, last.
+    /// Appends a value under a key.
     pub(crate) fn enter(&mut self, key: K, value: V) -> Result<(), TableFault>
         requires { self.old.part.given < 2 ^ 64 - 1 }
         ensures answer { Enters result (list_any (has_key K.eq key) self.old.part.held) (has_room self.old) }
@@ -108,7 +107,7 @@ impl<K: Copy + Eq + Hash, V: Copy> Entries<K, V> {
         Ok(())
     }
 
-    /// Takes the entry of a key out. The answer is false, and nothing changes, exactly where there is none.
+    /// Removes the entry of a key. Returns false, and changes nothing, exactly when there is none.
     pub(crate) fn remove(&mut self, key: K) -> bool
         ensures answer { result ≡ list_any (has_key K.eq key) self.old.part.held }
         ensures removed { self.new ≡ record self.old { part = kept (λ entry. not (has_key K.eq key entry)) (self.old.part) } }
@@ -121,7 +120,7 @@ impl<K: Copy + Eq + Hash, V: Copy> Entries<K, V> {
         true
     }
 
-    /// Takes the entry of a serial number out.
+    /// Removes the entry with this serial number.
     pub(crate) fn take(&mut self, serial: u64)
         ensures { self.new ≡ record self.old { part = kept (λ (entry : Entry K V). not (entry.0 == serial)) (self.old.part) } }
     {

@@ -1,4 +1,4 @@
-//! What events are fired at, handlers, and tasks.
+//! Event targets, handlers and tasks.
 
 ghost use Rattle.std.specs.Prelude.{◌≡◌};
 ghost use Rattle.page_model.specs.Listeners.{is_same_target, is_same_event};
@@ -8,7 +8,7 @@ ghost use Rattle.event_tables.specs.Seen.{seen_target, seen_key, seen_task};
 use element_tree::{DocumentId, NodeId};
 use text_io::EventKind;
 
-/// What an event is fired at: an element, a document, a document's window, or a media query list.
+/// An event target: an element, a document, a document's window, or a media query list.
 #[derive(Clone, Copy, PartialEq, Eq, Debug)]
 pub enum EventTarget {
     Node(NodeId),
@@ -17,11 +17,11 @@ pub enum EventTarget {
     Query(u32),
 }
 
-/// The name of a handler: its number, from 0 in the script's order.
+/// The id of a handler: its number, from 0 in the script's order.
 #[derive(Clone, Copy, PartialEq, Eq, Hash, Debug)]
 pub struct HandlerId(pub u32);
 
-/// A task that waits: to notify the intersection observers of a document, or to call a handler for a document.
+/// A queued task: to notify the intersection observers of a document, or to call a handler for a document.
 #[derive(Clone, Copy, PartialEq, Eq, Debug)]
 pub enum Task {
     Notify(DocumentId),

@@ -19,8 +19,8 @@ use std::collections::BTreeMap;
 use std::marker::Model;
 use text_io::Name;
 
-/// The frame callbacks of a page in order of making, each with its document and a key of its own there. A clause sees them
-/// as the definitions of a world do, with the number of serial numbers given, and how many there may be.
+/// The frame callbacks of a page in creation order, each with its document and a key unique in that document. Contracts see
+/// them as the definitions of a world do, with the count of serial numbers given out and the limit.
 #[derive(Drop)]
 pub struct FrameCallbacks {
     entries: Entries<DocumentKey, HandlerId>,
@@ -39,7 +39,7 @@ impl Model for FrameCallbacks {
 }
 
 impl FrameCallbacks {
-    /// No frame callbacks, which take no memory yet. At most `most` can be held.
+    /// Creates an empty set of frame callbacks; allocates nothing. At most `most` can be held.
     pub fn new(alloc: Global, most: u32) -> FrameCallbacks
         ensures { result ≡ record { part = record { given = 0; held = [] }; most = most } }
     {
@@ -48,10 +48,10 @@ impl FrameCallbacks {
         }
     }
 
-    /// Requests a frame callback of a document under a key, last.
+    /// Requests a frame callback of a document under a key; it runs after those already requested.
     ///
-    /// `Taken` exactly where the document has the key; else `Limit` exactly where `most` are held; else `Memory` where
-    /// there is none. Fewer than 2^64 - 1 serial numbers were given.
+    /// `Taken` exactly when the key is in use in the document; otherwise `Limit` exactly when `most` are held; otherwise
+    /// `Memory` if an allocation fails. Requires that fewer than 2^64 - 1 serial numbers have been given out.
     pub fn request(
         &mut self,
         document: DocumentId,
@@ -67,8 +67,7 @@ impl FrameCallbacks {
         self.entries.enter(DocumentKey { document, key }, handler)
     }
 
-    /// Cancels the frame callback of a document under a key. The answer is false, and nothing changes, exactly where there
-    /// is none.
+    /// Cancels the frame callback of a document under a key. Returns false, and changes nothing, exactly when there is none.
     pub fn cancel(&mut self, document: DocumentId, key: Name) -> bool
         ensures answer { result ≡ is_frame_requested document.0 key self.old.part }
         ensures cancelled { self.new ≡ record self.old { part = without_frame_callback document.0 key (self.old.part) } }
@@ -84,9 +83,9 @@ impl FrameCallbacks {
         copies(self.entries.allocator(), self.entries.held(), document)
     }
 
-    /// Takes out the first copied frame callback that still stands, and tells its key and handler; it and those before it
-    /// leave the batch. None exactly where none of those that are left still stands: one that was cancelled and requested
-    /// anew is another.
+    /// Removes the first frame callback of the batch that is still registered, and returns its key and handler; the batch is
+    /// advanced past it. `None` exactly when none of the rest is still registered. One that was cancelled and requested again
+    /// counts as a different one.
     pub fn next(&mut self, batch: &mut Batch) -> Option<(Name, HandlerId)>
         ensures value { option_map {U = List ℕ × ℕ} (λ called. (called.0, called.1.0)) result ≡ option_map told (find (λ it. frame_callback_stands it self.old.part) batch.old) }
         ensures removed { self.new ≡ record self.old { part = once_handed (find (λ it. frame_callback_stands it self.old.part) batch.old) (self.old.part) } }
@@ -98,7 +97,7 @@ impl FrameCallbacks {
         Some((callback.key.key, callback.handler))
     }
 
-    // Takes the first callback that still stands off the batch, with those before it.
+    // Advances the batch past the first callback that is still registered, and returns that.
     fn first_standing(&self, batch: &mut Batch) -> Option<Callback>
         ensures value { option_map seen_callback result ≡ find (λ it. frame_callback_stands it self.now.part) batch.old }
         ensures left { batch.new ≡ behind_first (λ it. frame_callback_stands it self.now.part) batch.old }
@@ -111,14 +110,14 @@ impl FrameCallbacks {
         None
     }
 
-    // Takes the one of a serial number out.
+    // Removes the one with this serial number.
     fn take(&mut self, serial: u64)
         ensures { self.new ≡ record self.old { part = frame_callback_taken serial (self.old.part) } }
     {
         self.entries.take(serial);
     }
 
-    // Whether the callback of a serial number is held.
+    // Whether the callback with this serial number is registered.
     fn stands(&self, serial: u64) -> bool
         ensures { result ≡ list_any (λ (each : FrameCallback). each.serial == serial) self.now.part.held }
     {
@@ -126,7 +125,7 @@ impl FrameCallbacks {
     }
 }
 
-// Copies of those of a document.
+// Copies those of a document.
 fn copies(
     alloc: Global,
     held: &BTreeMap<u64, (DocumentKey, HandlerId)>,

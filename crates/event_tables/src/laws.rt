@@ -1,4 +1,4 @@
-//! That the entries of a batch, handed out one after the other, are run as the definitions run them.
+//! Taking the entries of a batch one after the other runs what the definitions run.
 
 ghost use Rattle.std.specs.Prelude.{◌≡◌, Bool, List, find, map};
 ghost use Rattle.page_model.specs.World.{World, Listener, FrameCallback, Timer};
@@ -9,8 +9,8 @@ ghost use Rattle.page_model.specs.Runs.{Said};
 ghost use Rattle.event_tables.specs.Handed.{behind_first, one_by_one, run_and_then};
 ghost use Rattle.event_tables.specs.Timers.{callback_of, copied_stands, timer_of};
 
-/// Handing out one entry after the other, each where it still stands then, runs what the definitions run of the entries
-/// that they copied: the first that stands and then those behind it, whatever running it makes of the world.
+/// Taking one entry after the other, each only if it is still registered then, runs what the definitions run of the entries
+/// that they copied: the first that is still registered, then those after it, whatever running it does to the world.
 #[tactic(auto, using(crate::proofs::Handing::first_runs, crate::proofs::Handing::timers_run))]
 pub fn handing_out_runs_each_that_stands()
     ensures listeners { (stands : Listener → World → Bool) (run : Listener → World → Said World) (copied : List Listener) (world : World) → one_by_one stands run copied world ≡ run_and_then stands run (find (λ it. stands it world) copied) (behind_first (λ it. stands it world) copied) world }

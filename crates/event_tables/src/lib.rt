@@ -1,5 +1,5 @@
-//! The event tables of a page: the listeners, frame callbacks, timers and tasks that wait, in order of making, and the
-//! batches of those that are called.
+//! The event tables of a page: the listeners, frame callbacks, timers and queued tasks, in creation order, and the batches in
+//! which they are run.
 #![tactic(auto)]
 
 mod answers;

@@ -17,7 +17,7 @@ use std::collections::{BTreeMap, VecDeque};
 use std::marker::Model;
 use text_io::EventKind;
 
-/// That a handler listens for an event at a target: one listener at most.
+/// The identity of a listener: there is at most one for each target, event and handler.
 #[derive(Clone, Copy, PartialEq, Eq, Hash)]
 pub(crate) struct ListenerKey {
     pub(crate) target: TargetKey,
@@ -38,22 +38,22 @@ impl ListenerKey {
     }
 }
 
-// Whether the listener of a key listens for this event at this target.
+// Whether the listener with this key listens for this event at this target.
 fn hears(key: ListenerKey, target: EventTarget, kind: EventKind) -> bool
     ensures { result ≡ (is_same_target (seen_target target) (seen_key key.target) && is_same_event kind key.kind) }
 {
     is_same_target(target, key.target) && is_same_kind(kind, key.kind)
 }
 
-/// A listener that was copied.
+/// A copied listener.
 #[derive(Clone, Copy)]
 pub(crate) struct Listener {
     pub(crate) serial: u64,
     pub(crate) key: ListenerKey,
 }
 
-/// The listeners of a page in order of making. A clause sees them as the definitions of a world do, with the number of
-/// serial numbers given, and how many there may be.
+/// The listeners of a page in creation order. Contracts see them as the definitions of a world do, with the count of serial
+/// numbers given out and the limit.
 #[derive(Drop)]
 pub struct Listeners {
     entries: Entries<ListenerKey, ()>,
@@ -72,7 +72,7 @@ impl Model for Listeners {
 }
 
 impl Listeners {
-    /// No listeners, which take no memory yet. At most `most` can be held.
+    /// Creates an empty set of listeners; allocates nothing. At most `most` can be held.
     pub fn new(alloc: Global, most: u32) -> Listeners
         ensures { result ≡ record { part = record { given = 0; held = [] }; most = most } }
     {
@@ -81,11 +81,11 @@ impl Listeners {
         }
     }
 
-    /// Adds a listener, last (DOM, 2.7: add an event listener). The answer is false, and nothing changes, exactly where
-    /// the same handler listens for the same event at the same target already.
+    /// Appends a listener (DOM, 2.7: add an event listener). Returns false, and changes nothing, exactly when the same
+    /// handler already listens for the same event at the same target.
     ///
-    /// `Limit` exactly where it doesn't and `most` are held; else `Memory` where there is none; never `Taken`. Fewer than
-    /// 2^64 - 1 serial numbers were given.
+    /// `Limit` exactly when it doesn't yet and `most` are held; otherwise `Memory` if an allocation fails; never `Taken`.
+    /// Requires that fewer than 2^64 - 1 serial numbers have been given out.
     pub fn add(
         &mut self,
         target: EventTarget,
@@ -107,8 +107,8 @@ impl Listeners {
         }
     }
 
-    /// Removes the listener of a handler for an event at a target (DOM, 2.7: remove an event listener). The answer is
-    /// false, and nothing changes, exactly where there is none.
+    /// Removes the listener of a handler for an event at a target (DOM, 2.7: remove an event listener). Returns false, and
+    /// changes nothing, exactly when there is none.
     pub fn remove(&mut self, target: EventTarget, kind: EventKind, handler: HandlerId) -> bool
         ensures answer { result ≡ is_listening (seen_target target) kind handler.0 self.old.part }
         ensures removed { self.new ≡ record self.old { part = without_listener (seen_target target) kind handler.0 (self.old.part) } }
@@ -129,8 +129,9 @@ impl Listeners {
         Ok(Dispatch { left })
     }
 
-    /// The handler of the first copied listener that still stands; it and those before it leave the dispatch. None exactly
-    /// where none of those that are left still stands: one that was removed and made anew is another.
+    /// Returns the handler of the first listener of the dispatch that is still registered; the dispatch is advanced past it.
+    /// `None` exactly when none of the rest is still registered. One that was removed and added again counts as a different
+    /// one.
     pub fn next(&self, dispatch: &mut Dispatch) -> Option<HandlerId>
         ensures value { option_map (λ handler. handler.0) result ≡ option_map (λ (it : ModelListener). it.handler) (find (λ it. listener_stands it self.now.part) dispatch.old) }
         ensures left { dispatch.new ≡ behind_first (λ it. listener_stands it self.now.part) dispatch.old }
@@ -143,7 +144,7 @@ impl Listeners {
         None
     }
 
-    // Whether the listener of a serial number is held.
+    // Whether the listener with this serial number is registered.
     fn stands(&self, serial: u64) -> bool
         ensures { result ≡ list_any (λ (held : ModelListener). held.serial == serial) self.now.part.held }
     {
@@ -151,7 +152,7 @@ impl Listeners {
     }
 }
 
-// Copies of those for an event at a target.
+// Copies those for an event at a target.
 fn copies(
     alloc: Global,
     held: &BTreeMap<u64, (ListenerKey, ())>,
@@ -172,8 +173,8 @@ fn copies(
     Ok(left)
 }
 
-/// Listeners that were copied as an event reached its target, and weren't called yet. A clause sees them as a list of
-/// listeners.
+/// The listeners that were copied when an event reached its target, and that `next` hasn't taken yet. Contracts see them as a
+/// list of listeners.
 #[derive(Drop)]
 pub struct Dispatch {
     left: VecDeque<Listener>,
@@ -191,7 +192,7 @@ impl Model for Dispatch {
 }
 
 impl Dispatch {
-    // Takes the first one off.
+    // Removes the first one.
     fn pop(&mut self) -> Option<Listener>
         ensures { MatchOption result ((self.old ≡ []) × (self.new ≡ [])) (λ listener. self.old ≡ seen_copy listener ∷ self.new) }
     {

@@ -1,4 +1,4 @@
-//! Tasks that wait.
+//! Queued tasks.
 
 ghost use Rattle.std.specs.Prelude.{◌≡◌, [], not, option_map, OnOk, OnErr};
 ghost use Rattle.event_tables.specs.Answers.{Queues};
@@ -12,8 +12,8 @@ use std::alloc::Global;
 use std::collections::VecDeque;
 use std::marker::Model;
 
-/// The tasks of a page that wait, in order of queueing. A clause sees them as the definitions of a world do, with how many
-/// posted ones may wait.
+/// The queued tasks of a page, in queueing order. Contracts see them as the definitions of a world do, with the limit of
+/// posted tasks.
 #[derive(Drop)]
 pub struct Tasks {
     waiting: VecDeque<Task>,
@@ -37,7 +37,7 @@ impl Model for Tasks {
 }
 
 impl Tasks {
-    /// No tasks, which take no memory yet. At most `most` posted tasks can wait.
+    /// Creates an empty set of tasks; allocates nothing. At most `most` posted tasks can be queued.
     pub fn new(alloc: Global, most: u32) -> Tasks
         ensures { result ≡ record { part = []; most = most } }
     {
@@ -48,16 +48,17 @@ impl Tasks {
         }
     }
 
-    // Whether as many posted tasks wait as may, so that a further one meets `Limit`.
+    // Whether the maximum number of posted tasks is queued, so that a further one would meet `Limit`.
     fn is_full(&self) -> bool
         ensures { result ≡ not (has_room self.now) }
     {
         self.posted >= self.most
     }
 
-    /// Queues a task, last.
+    /// Queues a task.
     ///
-    /// `Limit` exactly for a posted task where `most` posted tasks wait; else `Memory` where there is none; never `Taken`.
+    /// `Limit` exactly for a posted task when `most` posted tasks are queued; otherwise `Memory` if an allocation fails;
+    /// never `Taken`.
     pub fn push(&mut self, task: Task) -> Result<(), TableFault>
         ensures answer { Queues result (may_queue (seen_task task) self.old) }
         ensures queued { OnOk result (self.new ≡ record self.old { part = with_task (seen_task task) (self.old.part) }) }
@@ -76,7 +77,7 @@ impl Tasks {
         Ok(())
     }
 
-    /// Takes the first task off. None exactly where no task waits.
+    /// Removes and returns the first task. `None` exactly when no task is queued.
     pub fn pop(&mut self) -> Option<Task>
         ensures value { option_map seen_task result ≡ first_of self.old.part }
         ensures left { self.new ≡ record self.old { part = others_of (self.old.part) } }

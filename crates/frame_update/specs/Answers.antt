@@ -1,4 +1,4 @@
--- What is written of a tick that was refused on a line.
+-- What is written when a tick on a line is refused.
 use Rattle.std.specs.Prelude.{◌≡◌, ℕ, List, [], ◌∷◌, Option, Result, Err}
 use Rattle.text_io.specs.declared.kinds.Version.{Version}
 use Rattle.text_io.specs.Limits.{limit_number}
@@ -9,12 +9,12 @@ use Rattle.trace_runs.specs.Writes.{Told}
 use Rattle.page_state.specs.declared.answers.PageFault.{PageFault}
 use Rattle.page_state.specs.declared.answers.PageFault.TheVariants.{Throw, Limit, Memory}
 
--- this was answered, with nothing written and no write failed
+-- the call returned this fault and wrote nothing, and no write failed
 abbrev pub IsLeft : {A : Type 0} → RunFault → Result A RunFault → Option (List ℕ) → Option (List ℕ) → ℕ → ℕ → Type 0
 IsLeft fault result before after faults faults_after = (result ≡ Err fault) × (after ≡ before) × (faults_after ≡ faults)
 
--- the line of an exception is written, which ends the tick alone; a limit ends the run, with its line left to the top call and its
--- number by the version of the page, and so does want of memory
+-- for an exception its line is written, and only the tick ends. A limit ends the run: its number depends on the page's version,
+-- and its line is left to the outermost call. Refused memory ends the run too
 abbrev pub Refused : {A : Type 0} → Version → PageFault → ℕ → Result A RunFault → Option (List ℕ) → Option (List ℕ) → ℕ → ℕ → Type 0
 Refused version (Throw kind) line result before after faults faults_after = Told result before after faults faults_after (ThrowLine line kind ∷ [])
 Refused version (Limit kind) line result before after faults faults_after = IsLeft (run.Limit kind line (limit_number version kind)) result before after faults faults_after

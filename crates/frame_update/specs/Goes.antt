@@ -1,4 +1,5 @@
--- How a run goes: what it writes, where its page is behind it, and that it holds what was lent to it. This project's own choice.
+-- How a run goes on: what it writes, the state of its page afterwards, and that it holds the same borrows. This project's own
+-- choice.
 use Rattle.std.specs.Prelude.{◌≡◌, ℕ, List, Option, Result, IfOk}
 use Rattle.script_model.specs.Scripts.{handlers_in}
 use Rattle.page_model.specs.Callbacks.{Script}
@@ -16,7 +17,7 @@ handlers_of run = handlers_in run.script.now.items
 abbrev pub world_of : {K L : Type 0} → Run K L → World
 world_of run = run.page.now.world
 
--- what the page and the sink are lent under
+-- the ghost names of the borrows of the page and of the sink
 abbrev pub loans_of : {K L : Type 0} → Run K L → ℕ × ℕ
 loans_of run = (run.page.ghost_name, run.sink.ghost_name)
 
@@ -24,9 +25,9 @@ loans_of run = (run.page.ghost_name, run.sink.ghost_name)
 abbrev pub IsUnderWay : {K L : Type 0} → Run K L → Type 0
 IsUnderWay run = IsPrepared run.script.now.items (world_of run)
 
--- a run before and behind a step that a definition says, whose state is what is answered and the world: what the sink takes, what fails and
--- where the page is are as the definition says, the page is prepared for the next step, the script is the same, and the page and the sink
--- are those that were lent, so that who lent them knows what became of them
+-- a run before and after a step of the definitions, whose state is made up of the returned value and the world: what the sink
+-- takes, how many writes fail and the state of the page are as the definition says; the page is prepared for the next step; the
+-- script is the same; and the page and the sink are those that were lent, so that the lender knows what became of them
 pub record GoesTo {K L A S : Type 0} (state : A → World → S) (taken : K → Option (List ℕ)) (faults : K → ℕ) (old new : Run K L) (result : Result A RunFault) (said : Said S)
     : Type 0 where
   pub says : Runs goes_on (λ value. state value (world_of new)) result (taken old.sink.now) (taken new.sink.now) (faults old.sink.now) (faults new.sink.now) said
@@ -34,6 +35,6 @@ pub record GoesTo {K L A S : Type 0} (state : A → World → S) (taken : K → 
   pub script : new.script ≡ old.script
   pub lent : loans_of new ≡ loans_of old
 
--- the same where the state is the world
+-- the same with the world as the state
 abbrev pub Goes : {K L A : Type 0} → (K → Option (List ℕ)) → (K → ℕ) → Run K L → Run K L → Result A RunFault → Said World → Type 0
 Goes taken faults old new result said = GoesTo (λ value world. world) taken faults old new result said

@@ -8,7 +8,7 @@ use Rattle.page_model.specs.Ticks.{resize_steps, scroll_steps, media_steps, fram
 use Rattle.frame_update.specs.declared.update.Part.{Part}
 use Rattle.frame_update.specs.declared.update.Part.TheVariants.{Resizes, Scrolls, Media, Frames, ResizeLoop, Intersections}
 
--- what a part is for one document
+-- the steps of each part for one document
 abbrev pub part_of : Script → Part → ℕ → World → Said World
 part_of script Resizes = resize_steps script
 part_of script Scrolls = scroll_steps script

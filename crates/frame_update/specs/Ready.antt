@@ -1,4 +1,4 @@
--- What a tick asks of a page and a script, and what it leaves.
+-- What a tick requires of a page and a script, and what it ensures of them.
 use Rattle.std.specs.Prelude.{List, length}
 use Rattle.script_model.specs.Syntax.{Item}
 use Rattle.script_model.specs.Scripts.{handlers_in}
@@ -7,11 +7,11 @@ use Rattle.page_model.specs.Ranges.{IsInRange}
 use Rattle.page_laws.specs.Bounds.{IsWithinLimits}
 use Rattle.page_laws.specs.Ready.{IsReadyFor}
 
--- each number in the world is that of something, and the limits on what is gone over by place are kept
+-- each number in the world refers to something that exists, and the limits on what is traversed by place are kept
 abbrev pub IsReady : List Item → World → Type 0
 IsReady script world = IsReadyFor (length (handlers_in script)) world
 
--- the same with its two parts in sight, which the parts of a tick hand on
+-- the same as a record of its two parts, which the parts of a tick pass on
 pub record IsPrepared (script : List Item) (world : World) : Type 0 where
   pub range : IsInRange (length (handlers_in script)) world
   pub limits : IsWithinLimits world

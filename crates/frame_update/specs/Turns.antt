@@ -9,11 +9,11 @@ use Rattle.depth_gather.specs.declared.entries.ResizeEntry.{ResizeEntry}
 abbrev pub broadcast_at : Option ℕ → World → Broadcast
 broadcast_at least world = record { world = world; shallowest = least }
 
--- the least of the depths so far, if there is one, and a further one
+-- the lesser of the least depth so far, if there is one, and a further depth
 abbrev pub least_with : Option ℕ → ℕ → ℕ
 least_with None depth = depth
 least_with (Some least) depth = min depth least
 
--- the entries are of elements that there are
+-- the entries are for elements that exist
 abbrev pub AreEntriesIn : World → List ResizeEntry → Type 0
 AreEntriesIn world entries = AllByRecursion (λ (entry : ResizeEntry). entry.target.0 < length world.tree.elements) entries

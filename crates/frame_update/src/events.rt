@@ -14,8 +14,8 @@ use text_io::{EventKind, Sink};
 use trace_runs::{RunFault, write_one};
 use trace_text::{EventLine, TraceLine};
 
-// The listeners at one target, copied as the event reaches it, each where it still stands at its turn (DOM, 2.9: inner
-// invoke).
+// Calls the listeners at one target, copied when the event reaches it, each if it is still registered at its turn (DOM, 2.9:
+// inner invoke).
 fn invoke<K: Sink, L: Ledger>(
     run: &mut Run<'_, K, L>,
     target: EventTarget,
@@ -53,7 +53,7 @@ fn bubble<K: Sink, L: Ledger>(
     }
 }
 
-/// Fires an event (DOM, 2.10): its line, and then its listeners.
+/// Fires an event (DOM, 2.10): writes its line, and then calls its listeners.
 pub(crate) fn fire<K: Sink, L: Ledger>(
     run: &mut Run<'_, K, L>,
     line: EventLine,

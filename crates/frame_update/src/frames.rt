@@ -19,7 +19,7 @@ use text_io::{Name, Sink};
 use trace_runs::{RunFault, write_one};
 use trace_text::TraceLine;
 
-// A frame callback that was taken out: its line, and its callback.
+// Runs a frame callback that was removed from the table: its line, and its callback.
 fn run_frame_callback<K: Sink, L: Ledger>(
     run: &mut Run<'_, K, L>,
     document: DocumentId,
@@ -39,8 +39,8 @@ fn run_frame_callback<K: Sink, L: Ledger>(
     call_handler(run, document, Some(handler), &Entries::Nothing)
 }
 
-/// The frame callbacks of a document that were requested before, each where it still stands at its turn, as long as the
-/// document is Active (HTML, run the animation frame callbacks).
+/// Runs the frame callbacks of a document that were requested before, each if it is still registered at its turn, as long as
+/// the document is Active (HTML, run the animation frame callbacks).
 pub(crate) fn frame_steps<K: Sink, L: Ledger>(
     run: &mut Run<'_, K, L>,
     document: DocumentId,

@@ -1,5 +1,5 @@
-//! A tick of a page's clock: the timers that are due, one update of the rendering, and the tasks that wait (HTML, event loops;
-//! CSSOM View, 13; Resize Observer, 3.4).
+//! A tick of a page's clock: the due timers, one update of the rendering, and the queued tasks (HTML, event loops; CSSOM
+//! View, 13; Resize Observer, 3.4).
 #![tactic(auto)]
 
 mod events;

@@ -16,7 +16,7 @@ use std::sync::ledger::Ledger;
 use text_io::Sink;
 use trace_runs::RunFault;
 
-// An observer whose queue isn't empty takes it, and its callback is called with the entries.
+// Takes the queue of an observer and, unless it is empty, calls the observer's callback with the entries.
 fn notify_watcher<K: Sink, L: Ledger>(
     run: &mut Run<'_, K, L>,
     watcher: WatcherId,
@@ -34,8 +34,9 @@ fn notify_watcher<K: Sink, L: Ledger>(
     call_handler(run, document, handler, &entries)
 }
 
-/// A notify task that was taken off: nothing where its document isn't Active; else its flag is cleared, and each of its
-/// observers takes its queue and is called with the entries, in order of making (Intersection Observer, 3.2.4).
+/// Runs a notify task that was popped: does nothing if its document isn't Active; otherwise clears its flag, takes the queue
+/// of each of its observers at its turn, in creation order, and calls the observer with the entries, if there are any
+/// (Intersection Observer, 3.2.4).
 pub(crate) fn notify<K: Sink, L: Ledger>(
     run: &mut Run<'_, K, L>,
     document: DocumentId,

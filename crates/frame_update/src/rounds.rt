@@ -32,7 +32,7 @@ use text_io::{EventKind, Sink};
 use trace_runs::{RunFault, write_one};
 use trace_text::{EventLine, TraceLine};
 
-// The least depth with a further one.
+// Returns the lesser of the least depth so far and a further one.
 fn shallower(least: Option<u32>, depth: u32) -> Option<u32>
     ensures { result ≡ Some (least_with least depth) }
 {
@@ -42,7 +42,7 @@ fn shallower(least: Option<u32>, depth: u32) -> Option<u32>
     }
 }
 
-// The active list of an observer that was called is emptied, while its document is Active.
+// Clears the active list of an observer that was called, if its document is still Active.
 fn end_turn(page: &mut Page, document: DocumentId, observer: ObserverId)
     requires { observer.0 < length page.old.world.resize_observers.made }
     ensures emptied { page.new.world ≡ emptied document.0 observer.0 page.old.world }
@@ -53,7 +53,7 @@ fn end_turn(page: &mut Page, document: DocumentId, observer: ObserverId)
     }
 }
 
-// The callback of an observer whose turn it is. Its active list is emptied behind it, while the document is Active.
+// Calls the callback of an observer at its turn, and then clears its active list, if the document is still Active.
 fn call_observer<K: Sink, L: Ledger>(
     run: &mut Run<'_, K, L>,
     document: DocumentId,
@@ -75,8 +75,8 @@ fn call_observer<K: Sink, L: Ledger>(
     Ok(())
 }
 
-// Broadcasts the active observations of a document, by place, since a callback may make observers, as long as the document
-// is Active (Resize Observer, 3.4: broadcast active observations). The answer is the least depth of the entries.
+// Broadcasts the active observations of a document, as long as it is Active, by index, since a callback may create observers
+// (Resize Observer, 3.4: broadcast active observations). Returns the least depth of the entries.
 fn broadcast<K: Sink, L: Ledger>(
     run: &mut Run<'_, K, L>,
     document: DocumentId,
@@ -101,7 +101,7 @@ fn broadcast<K: Sink, L: Ledger>(
     Ok(least)
 }
 
-// Gathers the observations of a document at a depth. The answer is the depth where something is active then.
+// Gathers the observations of a document at a depth. Returns the depth if there are active observations then.
 fn gather<L: Ledger>(
     page: &mut Page,
     document: DocumentId,
@@ -118,8 +118,8 @@ fn gather<L: Ledger>(
     Some(depth)
 }
 
-// A round: what it delivers, and where the document is still Active then its line and the gathering at its depth. The answer
-// is that depth where a further round follows.
+// Runs a round: its deliveries and, if the document is still Active then, its line and the gathering at its depth. Returns
+// that depth if a further round follows.
 fn round<K: Sink, L: Ledger>(
     run: &mut Run<'_, K, L>,
     document: DocumentId,
@@ -140,8 +140,8 @@ fn round<K: Sink, L: Ledger>(
     Ok(gather(run.page, document, depth, run.steps))
 }
 
-// The error event, where something was skipped as observations were last gathered (Resize Observer, 3.4: deliver resize loop
-// error).
+// Fires the error event, if something was skipped when observations were last gathered (Resize Observer, 3.4: deliver resize
+// loop error).
 fn report_skipped<K: Sink, L: Ledger>(
     run: &mut Run<'_, K, L>,
     document: DocumentId,
@@ -157,7 +157,8 @@ fn report_skipped<K: Sink, L: Ledger>(
     fire(run, line, window, EventKind::Error)
 }
 
-/// Gathers and broadcasts in turn, at first at depth 0, as long as something is active (HTML, update the rendering).
+/// Alternates gathering, at first at depth 0, and broadcasting, as long as there are active observations (HTML, update the
+/// rendering).
 pub(crate) fn resize_loop<K: Sink, L: Ledger>(
     run: &mut Run<'_, K, L>,
     document: DocumentId,

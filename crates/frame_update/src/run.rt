@@ -1,4 +1,4 @@
-//! A run on its way, as the parts of a tick hand it on.
+//! The state of a run, as passed to the parts of a tick.
 
 ghost use Rattle.std.specs.Prelude.{option_map};
 ghost use Rattle.page_model.specs.Callbacks.{call};
@@ -16,7 +16,7 @@ use step_count::Steps;
 use text_io::Sink;
 use trace_runs::RunFault;
 
-/// A page with the script that changes it, the sink that takes the lines, and the count of steps.
+/// A page with its script, the sink that receives the lines, and the count of steps.
 #[derive(Drop)]
 pub(crate) struct Run<'a, K: Sink, L: Ledger> {
     pub(crate) alloc: Global,
@@ -26,7 +26,7 @@ pub(crate) struct Run<'a, K: Sink, L: Ledger> {
     pub(crate) steps: &'a mut Steps<L>,
 }
 
-/// Calls a handler for a document, with entries (`run_handler`). The run goes on from there.
+/// Calls a handler for a document, with entries (`run_handler`).
 pub(crate) fn call_handler<K: Sink, L: Ledger>(
     run: &mut Run<'_, K, L>,
     document: DocumentId,

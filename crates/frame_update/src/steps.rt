@@ -22,8 +22,8 @@ use text_io::{EventKind, Sink};
 use trace_runs::RunFault;
 use trace_text::EventLine;
 
-/// The resize steps of a document: its size is noted, and where it differs from the one noted before, the event is fired
-/// (CSSOM View, 13: run the resize steps).
+/// Runs the resize steps of a document: records the size of its viewport, and fires the event if it differs from the one
+/// recorded before (CSSOM View, 13: run the resize steps).
 pub(crate) fn resize_steps<K: Sink, L: Ledger>(
     run: &mut Run<'_, K, L>,
     document: DocumentId,
@@ -40,7 +40,7 @@ pub(crate) fn resize_steps<K: Sink, L: Ledger>(
     fire(run, line, window, EventKind::Resize)
 }
 
-// The event of a target that scrolled, where the document is still Active.
+// Fires the event of a target that scrolled, if the document is still Active.
 fn scroll_step<K: Sink, L: Ledger>(
     run: &mut Run<'_, K, L>,
     document: DocumentId,
@@ -62,8 +62,8 @@ fn scroll_step<K: Sink, L: Ledger>(
     fire(run, line, target, EventKind::Scroll)
 }
 
-/// The scroll steps of a document: its pending list is taken whole, and an event is fired at each target (CSSOM View, 13:
-/// run the scroll steps).
+/// Runs the scroll steps of a document: takes its whole pending list, and fires an event at each target (CSSOM View, 13: run
+/// the scroll steps).
 pub(crate) fn scroll_steps<K: Sink, L: Ledger>(
     run: &mut Run<'_, K, L>,
     document: DocumentId,
@@ -78,7 +78,7 @@ pub(crate) fn scroll_steps<K: Sink, L: Ledger>(
     Ok(())
 }
 
-// The event of a query list whose state changed.
+// Fires the event of a query list whose state changed.
 fn report_change<K: Sink, L: Ledger>(
     run: &mut Run<'_, K, L>,
     change: Change,
@@ -93,8 +93,8 @@ fn report_change<K: Sink, L: Ledger>(
     fire(run, line, target, EventKind::Change)
 }
 
-/// The query lists of a document are evaluated, by place, since a listener may make more, as long as the document is Active
-/// (CSSOM View, 4.2: evaluate media queries and report changes).
+/// Evaluates the query lists of a document, as long as it is Active, by index, since a listener may create more (CSSOM View,
+/// 4.2: evaluate media queries and report changes).
 pub(crate) fn media_steps<K: Sink, L: Ledger>(
     run: &mut Run<'_, K, L>,
     document: DocumentId,

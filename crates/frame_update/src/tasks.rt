@@ -1,4 +1,4 @@
-//! The tasks that wait (HTML, 8.1.7).
+//! Queued tasks (HTML, 8.1.7).
 
 ghost use Rattle.std.specs.Prelude.{◌≡◌, ◌<◌, length};
 ghost use Rattle.script_model.specs.Scripts.{handlers_in};
@@ -23,7 +23,7 @@ use text_io::{Name, Sink};
 use trace_runs::{RunFault, write_one};
 use trace_text::TraceLine;
 
-// A posted task: its line, and its callback, where its document is Active.
+// Runs a posted task, if its document is Active: its line, and its callback.
 fn run_posted<K: Sink, L: Ledger>(
     run: &mut Run<'_, K, L>,
     document: DocumentId,
@@ -44,7 +44,7 @@ fn run_posted<K: Sink, L: Ledger>(
     call_handler(run, document, Some(handler), &Entries::Nothing)
 }
 
-// A task that was taken off.
+// Runs a task that was popped.
 fn run_task<K: Sink, L: Ledger>(run: &mut Run<'_, K, L>, task: Task) -> Result<(), RunFault>
     requires ready { IsPrepared run.old.script.now.items (with_first (seen_task task) (world_of run.old)) }
     ensures { Goes K.taken K.faults run.old run.new result (run_task (handlers_of run.old) (seen_task task) (world_of run.old)) }
@@ -55,7 +55,7 @@ fn run_task<K: Sink, L: Ledger>(run: &mut Run<'_, K, L>, task: Task) -> Result<(
     }
 }
 
-/// The first task is taken off and run, until none is left (HTML, 8.1.7).
+/// Pops and runs the first task, until none is left (HTML, 8.1.7).
 pub(crate) fn run_tasks<K: Sink, L: Ledger>(run: &mut Run<'_, K, L>) -> Result<(), RunFault>
     requires ready { IsUnderWay run.old }
     ensures { Goes K.taken K.faults run.old run.new result (run_tasks (handlers_of run.old) (world_of run.old)) }
@@ -67,7 +67,7 @@ pub(crate) fn run_tasks<K: Sink, L: Ledger>(run: &mut Run<'_, K, L>) -> Result<(
     Ok(())
 }
 
-// The name of a handler.
+// Returns the name of a handler.
 fn handler_name(script: &Script, handler: HandlerId) -> Name
     requires { handler.0 < length (handlers_in script.now.items) }
     ensures { result ≡ handler_text (handlers_in script.now.items) handler.0 }

@@ -29,7 +29,7 @@ use text_io::{Sink, Version};
 use trace_runs::{RunFault, write_one};
 use trace_text::TraceLine;
 
-// A tick whose time is set: the timers due, an update of the rendering, and the tasks.
+// Runs a tick whose time is set: the due timers, an update of the rendering, and the tasks.
 fn run_parts<K: Sink, L: Ledger>(run: &mut Run<'_, K, L>, time: u64) -> Result<(), RunFault>
     requires ready { IsUnderWay run.old }
     requires time { (world_of run.old).clock ≡ time }
@@ -41,7 +41,7 @@ fn run_parts<K: Sink, L: Ledger>(run: &mut Run<'_, K, L>, time: u64) -> Result<(
     run_tasks(run)
 }
 
-// The same in a run made of these, which are lent to it for one lifetime.
+// The same, with a `Run` of these, which are borrowed for one lifetime.
 fn run_timed<'a, K: Sink, L: Ledger>(
     alloc: Global,
     page: &'a mut Page,
@@ -66,7 +66,8 @@ fn run_timed<'a, K: Sink, L: Ledger>(
     run_parts(&mut run, time)
 }
 
-// What is written of a call that was refused: an exception ends the tick, and a limit the run. The version is that of the page.
+// Handles the error of a call: an exception is written and ends the tick, a limit ends the run. The version is that of the
+// page.
 fn refuse<K: Sink>(
     alloc: Global,
     line: u32,
@@ -86,20 +87,20 @@ fn refuse<K: Sink>(
     }
 }
 
-/// A tick at a time in milliseconds, at most 1,000,000,000,000: it is counted as a command; a time before the clock's throws,
-/// which is written and answers Ok. Then come the timers that are due, one update of the rendering, and the tasks that wait
-/// (HTML, event loops).
+/// Runs a tick at a time in milliseconds, at most 1,000,000,000,000: it is counted as a command; a time before the clock's
+/// throws, which is written, and the result is `Ok`. Then come the due timers, one update of the rendering, and the queued
+/// tasks (HTML, event loops).
 ///
-/// In each of its resize loops a round is deeper than the one before, unless a command of that round takes an inclusive ancestor
-/// of what was gathered in it out of its parent; with m such commands, and H the greatest depth of a target that it delivers, a loop
-/// has at most (m + 1) * H rounds; and the error event is fired exactly where the rounds ended with the document Active and a target
-/// whose size differs from its last reported one (Resize Observer, 3.4). These loops are those that write its lines of rounds and of
-/// loop errors (law `all_loops_are_listed` of `loop_laws`, clause `items`).
+/// In each of its resize loops a round is deeper than the one before, unless a command of that round removes an inclusive
+/// ancestor of a target gathered in it from its parent; with m such commands, and H the greatest depth of a target that it
+/// delivers, a loop has at most (m + 1) * H rounds; and the error event is fired exactly when the rounds ended with the
+/// document Active and a target whose size differs from its last reported one (Resize Observer, 3.4). These loops are those
+/// that write its lines of rounds and of loop errors (law `all_loops_are_listed` of `loop_laws`, clause `items`).
 ///
 /// # Errors
-/// - `Limit` only where a limit is met, where it never answers Ok; every line before the limit's own was written.
-/// - `Memory`, and `WriteFault` only where the sink's count of faults rose in this call; either may come before a limit. A first
-///   part of the lines was written.
+/// - `Limit` only if a limit is met, and then never `Ok`; every line before the limit's own was written.
+/// - `Memory`, and `WriteFault` only if the sink's fault count rose in this call; either may come before a limit. A prefix of
+///   the lines was written.
 pub fn tick<K: Sink, L: Ledger>(
     alloc: Global,
     page: &mut Page,

@@ -1,4 +1,4 @@
-//! The timers that are due as a tick begins (HTML, timers).
+//! The timers that are due when a tick begins (HTML, timers).
 
 ghost use Rattle.std.specs.Prelude.{Some};
 ghost use Rattle.frame_update.specs.Goes.{handlers_of, world_of, Goes, IsUnderWay};
@@ -18,7 +18,7 @@ use text_io::{Name, Sink};
 use trace_runs::{RunFault, write_one};
 use trace_text::TraceLine;
 
-// A timer that was taken out: its line, and its callback, where its document is Active.
+// Runs a timer that was removed from the table, if its document is Active: its line, and its callback.
 fn run_timer<K: Sink, L: Ledger>(
     run: &mut Run<'_, K, L>,
     document: DocumentId,
@@ -40,7 +40,7 @@ fn run_timer<K: Sink, L: Ledger>(
     call_handler(run, document, Some(handler), &Entries::Nothing)
 }
 
-/// The timers that are due at the clock, each where it still stands at its turn (HTML, timers).
+/// Runs the timers that are due at the clock's time, each if it is still set at its turn (HTML, timers).
 pub(crate) fn run_timers<K: Sink, L: Ledger>(run: &mut Run<'_, K, L>) -> Result<(), RunFault>
     requires ready { IsUnderWay run.old }
     ensures { Goes K.taken K.faults run.old run.new result (run_timers (handlers_of run.old) (world_of run.old)) }

@@ -18,7 +18,7 @@ use std::sync::ledger::Ledger;
 use text_io::Sink;
 use trace_runs::RunFault;
 
-/// The parts of an update that go over the documents one after another.
+/// The parts of an update, each of which iterates over the documents.
 #[derive(Clone, Copy)]
 enum Part {
     Resizes,
@@ -39,7 +39,7 @@ const PARTS: [Part; 6] = [
     Part::Intersections,
 ];
 
-// A part of an update for one document, which is Active.
+// Runs a part of an update for one document, which is Active.
 fn run_part<K: Sink, L: Ledger>(
     run: &mut Run<'_, K, L>,
     part: Part,
@@ -62,7 +62,7 @@ fn run_part<K: Sink, L: Ledger>(
     }
 }
 
-// The same where the document is still Active.
+// The same, if the document is still Active.
 fn run_while_active<K: Sink, L: Ledger>(
     run: &mut Run<'_, K, L>,
     part: Part,
@@ -77,7 +77,7 @@ fn run_while_active<K: Sink, L: Ledger>(
     run_part(run, part, document)
 }
 
-// A part of an update over these documents, each while it is Active.
+// Runs a part of an update for each of these documents that is Active at its turn.
 fn run_for_each<K: Sink, L: Ledger>(
     run: &mut Run<'_, K, L>,
     part: Part,
@@ -93,7 +93,8 @@ fn run_for_each<K: Sink, L: Ledger>(
     Ok(())
 }
 
-/// Updates the rendering: each part over all the documents that are Active as it begins, each one while it is.
+/// Updates the rendering: runs each part for all documents that are Active when the update begins, skipping those that no
+/// longer are.
 pub(crate) fn update_rendering<K: Sink, L: Ledger>(run: &mut Run<'_, K, L>) -> Result<(), RunFault>
     requires ready { IsUnderWay run.old }
     ensures { Goes K.taken K.faults run.old run.new result (update_rendering (handlers_of run.old) (world_of run.old)) }

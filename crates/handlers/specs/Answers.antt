@@ -1,4 +1,4 @@
--- What is written of a call of a page that was refused by the command on a line.
+-- What is written when a call of the page by the command on a line is refused.
 use Rattle.std.specs.Prelude.{ℕ, List, [], ◌∷◌, Option, Result}
 use Rattle.text_io.specs.declared.kinds.Version.{Version}
 use Rattle.text_io.specs.Limits.{limit_number}
@@ -13,8 +13,8 @@ use Rattle.trace_runs.specs.Runs.{Runs}
 use Rattle.page_state.specs.declared.answers.PageFault.{PageFault}
 use Rattle.page_state.specs.declared.answers.PageFault.TheVariants.{Throw, Limit, Memory}
 
--- an exception is thrown on, a limit ends the run, and so does want of memory, which is no step of the definitions. The
--- world is as it was, and its version says how much there may be
+-- an exception propagates, a limit ends the run, and so does refused memory, which is no step of the definitions. The world is as
+-- it was; the number of a limit depends on the version
 abbrev pub Refused : Version → PageFault → ℕ → Result Flow RunFault → Option (List ℕ) → Option (List ℕ) → ℕ → ℕ → Type 0
 Refused version (Throw kind) line result before after faults faults_after = (world : World) →
     Runs flow_of (λ _. world) result before after faults faults_after (record { lines = ThrowLine line kind ∷ []; flow = runs.Thrown; state = world })

@@ -1,4 +1,4 @@
-//! Commands with their blocks, one after another.
+//! Running commands with their blocks.
 
 ghost use Rattle.std.specs.Prelude.{length, IfOk};
 ghost use Rattle.script_model.specs.Scripts.{handlers_in};
@@ -23,15 +23,16 @@ use step_count::Steps;
 use text_io::Sink;
 use trace_runs::{Flow, RunFault, write_throw};
 
-/// Begins a command and runs it with its block, for the entry at a place of `entries` if there is one, and writes its lines.
+/// Begins a command, runs it with its block, for the entry at an index of `entries` if there is one, and writes its lines.
 /// Outside handlers there are no entries.
 ///
-/// `Thrown` where it threw, which was written. With Ok a page that was ready for a tick of the script is so still (`IsReadyFor`).
+/// Returns `Thrown` if it threw, after writing the exception. With `Ok` a page that was ready for a tick of the script is
+/// still so (`IsReadyFor`).
 ///
 /// # Errors
-/// - `Limit` only where a limit is met, where it never answers Ok; all but the limit's own line was written.
-/// - `Memory`, and `WriteFault` only where the sink's count of faults rose in this call; either may come before a limit. A first
-///   part was written.
+/// - `Limit` only if a limit is met, and then never `Ok`; all but the limit's own line was written.
+/// - `Memory`, and `WriteFault` only if the sink's fault count rose in this call; either may come before a limit. A prefix of
+///   the lines was written.
 #[cycle(blocks)]
 pub fn run_command<K: Sink, L: Ledger>(
     alloc: Global,
@@ -82,7 +83,7 @@ pub fn run_command<K: Sink, L: Ledger>(
     }
 }
 
-// An `each` that was begun: its block for each of the entries.
+// Runs an `each` that was begun: its block for each of the entries.
 #[cycle(blocks)]
 fn run_each<K: Sink, L: Ledger>(
     alloc: Global,
@@ -117,7 +118,7 @@ fn run_each<K: Sink, L: Ledger>(
     Ok(Flow::Next)
 }
 
-// A `when` that was begun: its block where the condition holds.
+// Runs a `when` that was begun: its block if the condition holds.
 #[cycle(blocks)]
 fn run_when<K: Sink, L: Ledger>(
     alloc: Global,
@@ -146,7 +147,8 @@ fn run_when<K: Sink, L: Ledger>(
     }
 }
 
-/// Runs the commands of a block, for the entry at a place of `entries` if there is one. Refused as `run_command`.
+/// Runs the commands of a block, for the entry at an index of `entries` if there is one. The errors are those of
+/// `run_command`.
 #[cycle(blocks)]
 pub(crate) fn run_block<K: Sink, L: Ledger>(
     alloc: Global,

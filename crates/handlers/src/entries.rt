@@ -1,4 +1,4 @@
-//! The entries of a callback, the lines that tell of them, and the one that a command is run for.
+//! The entries of a callback, their lines, and the entry that a command is run for.
 
 ghost use Rattle.std.specs.Prelude.{◌≡◌, ◌<◌, ◌^◌, ◌∷◌, pos, unsigned_abs, map, length, IfSome, Some, None};
 ghost use Rattle.script_model.specs.TraceLines.{TakeLine};
@@ -27,7 +27,7 @@ use text_io::{Sink, Version};
 use trace_runs::{RunFault, write_one};
 use trace_text::TraceLine;
 
-/// What a callback is given.
+/// The entries passed to a callback.
 #[derive(Drop)]
 pub enum Entries {
     /// No entries.
@@ -39,7 +39,7 @@ pub enum Entries {
 }
 
 impl Entries {
-    // How many there are.
+    // Returns the number of entries.
     pub(crate) fn count(&self) -> usize
         ensures { result ≡ length (presents (entries_of self.now)) }
     {
@@ -51,7 +51,7 @@ impl Entries {
     }
 }
 
-// The entry that a command is run for: its target, and of an intersection observer whether it is intersecting.
+// The entry that a command is run for: its target, and isIntersecting if it is an intersection observer's.
 #[derive(Clone, Copy)]
 pub(crate) struct Subject {
     pub(crate) target: Option<NodeId>,
@@ -63,7 +63,7 @@ const NO_SUBJECT: Subject = Subject {
     meets: None,
 };
 
-// The entry at a place, none where there is none.
+// Returns the entry at an index, `NO_SUBJECT` if there is none.
 fn entry_at(entries: &Entries, place: usize) -> Subject
     ensures { subject_of result ≡ present_at (presents (entries_of entries.now)) (Some place) }
 {
@@ -102,7 +102,7 @@ fn length_of(units: u64) -> i64
     units as i64
 }
 
-// The size in device pixels is told in the second version alone. Its lengths have no sign.
+// The size in device pixels is written only in the second version. Its lengths are non-negative.
 fn device_told(version: Version, size: Size) -> Option<Size>
     requires { IfSome (device_told version (seen_size size)) SizeReaches }
     ensures { result ≡ device_told version (seen_size size) }
@@ -116,7 +116,7 @@ fn device_told(version: Version, size: Size) -> Option<Size>
     }
 }
 
-// The line of an entry, whose lengths have no sign.
+// Returns the line of an entry, whose lengths are non-negative.
 fn resize_line(page: &Page, observer: ObserverId, entry: &ResizeEntry) -> TraceLine
     requires caller { observer.0 < length page.now.world.resize_observers.made }
     requires target { entry.now.target.0 < length page.now.world.tree.elements }
@@ -142,7 +142,7 @@ fn resize_line(page: &Page, observer: ObserverId, entry: &ResizeEntry) -> TraceL
     }
 }
 
-// The lines of the entries of a resize observer.
+// Writes the lines of the entries of a resize observer.
 fn write_sizes<K: Sink>(
     alloc: Global,
     page: &Page,
@@ -163,7 +163,7 @@ fn write_sizes<K: Sink>(
     Ok(())
 }
 
-// The line of an entry of an intersection observer.
+// Returns the line of an entry of an intersection observer.
 #[tactic(auto, unfolding(page_model::specs::EntryLines::intersection_line))]
 fn intersection_line(page: &Page, observer: WatcherId, entry: &Entry) -> TraceLine
     requires caller { observer.0 < length page.now.world.intersection_observers.made }
@@ -184,7 +184,7 @@ fn intersection_line(page: &Page, observer: WatcherId, entry: &Entry) -> TraceLi
     }
 }
 
-// The lines of the entries of an intersection observer.
+// Writes the lines of the entries of an intersection observer.
 fn write_cuts<K: Sink>(
     alloc: Global,
     page: &Page,
@@ -206,8 +206,8 @@ fn write_cuts<K: Sink>(
     Ok(())
 }
 
-/// Writes how many entries were taken of the queue of an intersection observer, and then their lines (Intersection Observer,
-/// 2.2: `takeRecords`).
+/// Writes the number of entries taken from the queue of an intersection observer, and then their lines (Intersection
+/// Observer, 2.2: `takeRecords`).
 pub(crate) fn write_taken<K: Sink>(
     alloc: Global,
     page: &Page,

@@ -1,4 +1,4 @@
-//! A handler, called with the entries of its callback.
+//! Calling a handler with the entries of its callback.
 
 ghost use Rattle.std.specs.Prelude.{length, option_map, IfOk, Some};
 ghost use Rattle.script_model.specs.Scripts.{handlers_in};
@@ -20,7 +20,7 @@ use step_count::Steps;
 use text_io::Sink;
 use trace_runs::RunFault;
 
-// Runs the block of the handler of a number, if there is one. What it throws ends it alone.
+// Runs the block of the handler with this number, if there is one. An exception ends only the block.
 fn run_numbered<K: Sink, L: Ledger>(
     alloc: Global,
     page: &mut Page,
@@ -66,14 +66,14 @@ fn run_named<K: Sink, L: Ledger>(
     }
 }
 
-/// Calls a handler for a document, with entries: nothing where the document isn't Active, else a line for each entry and then
-/// the handler's block, if there is a handler. An exception ends the block alone. With Ok a page that was ready for a tick of the
-/// script is so still (`IsReadyFor`).
+/// Calls a handler for a document, with entries: does nothing if the document isn't Active; otherwise writes a line for each
+/// entry and then runs the handler's block, if there is a handler. An exception ends only the block. With `Ok` a page that
+/// was ready for a tick of the script is still so (`IsReadyFor`).
 ///
 /// # Errors
-/// - `Limit` only where a limit is met, where it never answers Ok; all but the limit's own line was written.
-/// - `Memory`, and `WriteFault` only where the sink's count of faults rose in this call; either may come before a limit. A first
-///   part was written.
+/// - `Limit` only if a limit is met, and then never `Ok`; all but the limit's own line was written.
+/// - `Memory`, and `WriteFault` only if the sink's fault count rose in this call; either may come before a limit. A prefix of
+///   the lines was written.
 pub fn run_handler<K: Sink, L: Ledger>(
     alloc: Global,
     page: &mut Page,

@@ -1,5 +1,5 @@
-//! Callbacks of a page: commands with their blocks, and handlers with the entries that they are given (WebIDL, invoking
-//! callbacks). Each line is written as it is said.
+//! Callbacks of a page: commands with their blocks, and handlers with their entries (WebIDL, invoking callbacks). Trace lines
+//! are written as they are produced.
 #![tactic(auto)]
 
 mod commands;

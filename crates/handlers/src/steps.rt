@@ -1,4 +1,4 @@
-//! A command that was begun, and what is written of one that was refused.
+//! Applying a command that was begun, and writing the line of an error.
 
 ghost use Rattle.std.specs.Prelude.{◌≡◌, true, length};
 ghost use Rattle.script_model.specs.Scripts.{handlers_in};
@@ -24,8 +24,8 @@ use step_count::Steps;
 use text_io::{Sink, Version};
 use trace_runs::{Flow, RunFault, write_one, write_throw};
 
-// What is written of a call that was refused by the command on a line: an exception is thrown on, and the line of a limit is
-// left to the top call. The version is that of the page.
+// Handles the error of the command on a line: an exception is written and propagated, and the line of a limit is left to the
+// top-level call. The version is that of the page.
 pub(crate) fn refuse<K: Sink>(
     alloc: Global,
     line: u32,
@@ -45,7 +45,7 @@ pub(crate) fn refuse<K: Sink>(
     }
 }
 
-// Writes the lines of a command that was applied.
+// Writes the lines of a command's effect.
 fn tell<K: Sink>(alloc: Global, page: &Page, effect: &Effect, sink: &mut K) -> Result<(), RunFault>
     requires { IsHanded page.now.world effect.now }
     ensures { Told result (K.taken sink.old) (K.taken sink.new) (K.faults sink.old) (K.faults sink.new) (lines_of page.now.world effect.now) }

@@ -4,6 +4,7 @@ use Rattle.std.specs.List.{list_all}
 use Rattle.std.proofs.lemmas.List.{map-append, reverse-append}
 use Rattle.std.proofs.lemmas.List.Elements.{All-weaker, filter_passes}
 use Rattle.std.proofs.lemmas.List.Sorted.{All-permutation}
+use Rattle.std.proofs.lemmas.Bool.{and_parts}
 use Rattle.page_boxes.proofs.Pages.{made_if_boxed}
 use Rattle.px_units.specs.declared.Point.{Point}
 use Rattle.element_tree.specs.declared.node.NodeId.{NodeId}
@@ -19,7 +20,6 @@ use Rattle.page_geometry.proofs.Chains.{above}
 use Rattle.page_geometry.proofs.Ends.{few_between}
 use Rattle.hit_test.specs.Hits.{has_point, hits, is_hit, shows_between}
 use Rattle.hit_test.specs.Painting.{paint_order}
-use Rattle.page_boxes.proofs.Edges.{first_true}
 
 module _ (it : Shown) (page : IsPageTree it.tree) (n : ℕ) (boxed : has_box it n ≡ true) where
   pub to_screen : IsAbove (scene_of it) (view_spot 0) (element_spot n)
@@ -76,7 +76,7 @@ hit_there : (it : Shown) (at : Point) (n : ℕ) → is_hit it at n ≡ true → 
 unfolding is_hit
 hit_there it at n hit =
     made_if_boxed it.tree it.screen n
-    (first_true (has_box it n) (list_all (has_point at) (border_rect it n ∷ viewport_rect it 0 ∷ clips_between it ImplicitRoot n)) hit)
+    ((and_parts (has_box it n) (list_all (has_point at) (border_rect it n ∷ viewport_rect it 0 ∷ clips_between it ImplicitRoot n)) hit).0)
 
 pub all_there : (it : Shown) (at : Point) (painted found back : List NodeId) → found ≡ filter (λ (node : NodeId). is_hit it at (node.0)) painted
     → IsPermutation found back → All (λ (node : NodeId). node.0 < length it.tree.elements) back

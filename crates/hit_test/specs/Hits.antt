@@ -27,11 +27,11 @@ unfolding border_rect clips_between boxes.has_box viewport_rect
 is_hit shown at n =
     has_box shown n && list_all (has_point at) (border_rect shown n ∷ viewport_rect shown 0 ∷ clips_between shown ImplicitRoot n)
 
--- the elements that a point hits, the uppermost first
+-- the elements that a point hits, the topmost first
 unfoldable pub hits : World → Point → List ℕ
 unfolding is_hit paint_order
 hits world at = reverse (filter (is_hit (shown_of world) at) (paint_order (world.tree)))
 
--- the same of a target by its chain to the viewport of the top document, with these spots between
+-- the same for a target with these spots between it and the viewport of the top document
 abbrev pub shows_between : Scene → Point → Container → List Container → Bool
 shows_between scene at target between = list_all (has_point at) (scene.bounds target ∷ scene.bounds (view_spot 0) ∷ filter_map (scene.clip) between)

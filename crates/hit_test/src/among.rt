@@ -18,7 +18,7 @@ fn is_boxed_hit(shown: &Shown<'_>, node: NodeId, at: Point) -> bool
     requires { has_box shown.now node.0 ≡ true }
     ensures { result ≡ is_hit shown.now at node.0 }
 {
-    // It tells that chains lead to the viewport of `top`, and how long they are.
+    // Yields that chains lead to the viewport of `top`, and a bound on their length.
     shown.document_count();
     shows_at(shown, node, at)
 }
@@ -31,7 +31,7 @@ fn is_hit(shown: &Shown<'_>, node: NodeId, at: Point) -> bool
     shown.has_box(node) && is_boxed_hit(shown, node, at)
 }
 
-// Those of some elements that a point hits, in the same order.
+// Returns those of the given elements that a point hits, in the same order.
 fn hit_among(
     alloc: Global,
     shown: &Shown<'_>,
@@ -49,7 +49,7 @@ fn hit_among(
     Ok(found)
 }
 
-// The elements that a point hits, the uppermost first.
+// Returns the elements that a point hits, topmost first.
 pub(crate) fn hits_shown(
     alloc: Global,
     shown: &Shown<'_>,

@@ -1,4 +1,4 @@
-//! What lies below a point: the elements that a point of the top document's viewport hits, the uppermost first (CSSOM View, 5:
+//! Hit testing: the elements hit by a point of the top document's viewport, topmost first (CSSOM View, 5:
 //! `elementsFromPoint`), and the order in which elements are painted (CSS 2.2, appendix E).
 //!
 //! Points and rectangles are in units of 1/64 CSS pixel and in the coordinates of the top document's viewport.

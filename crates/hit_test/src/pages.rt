@@ -1,4 +1,4 @@
-//! What a point of a page hits.
+//! Hit testing on a page.
 
 ghost use Rattle.std.specs.Prelude.{◌≡◌, ◌<◌, All, length, map, IfOk};
 ghost use Rattle.element_tree.specs.Links.{number};
@@ -13,12 +13,12 @@ use std::alloc::{AllocError, Global};
 use std::sync::ledger::Ledger;
 use step_count::Steps;
 
-/// The elements of a page as it is now that a point of the viewport of `top` hits, the uppermost first (CSSOM View, 5:
-/// `elementsFromPoint`). Boxes that are due are computed before, at most a step for each. The page is otherwise as it was.
+/// Returns the elements of a page that a point of the viewport of `top` hits, topmost first (CSSOM View, 5:
+/// `elementsFromPoint`). Boxes that are due are recomputed first, in at most one step each. The page is otherwise unchanged.
 ///
 /// # Errors
 ///
-/// Where there is no memory.
+/// If an allocation fails.
 pub fn hits<L: Ledger>(
     alloc: Global,
     page: &mut Page,

@@ -1,4 +1,4 @@
-//! The order in which elements are painted.
+//! Paint order.
 
 ghost use Rattle.std.specs.Prelude.{◌≡◌, ◌<◌, ◌++◌, length, map, option_map, option_to_list, IfOk, IfSome, OnOk};
 ghost use Rattle.element_tree.specs.Links.{number};
@@ -11,10 +11,10 @@ use element_tree::{DocumentId, NodeId, Tree};
 use page_tree::{Element, PageTree};
 use std::alloc::{AllocError, Global};
 
-// As many levels are gone down: more than there can be, each document's within its frame.
+// The bound on levels that are visited, each document's below its frame: more than there can be.
 const LEVELS: u32 = 65536;
 
-// The root element of a document, none where it has none or isn't Active.
+// Returns the root element of a document, `None` if it has none or isn't Active.
 fn painted_root(page: &PageTree, document: DocumentId) -> Option<NodeId>
     ensures value { option_to_list (option_map number result) ≡ painted_root page.now.tree document.0 }
     ensures held { IfSome result (λ root. root.0 < length page.now.tree.elements) }
@@ -26,7 +26,7 @@ fn painted_root(page: &PageTree, document: DocumentId) -> Option<NodeId>
     }
 }
 
-// The root element that a frame holds.
+// Returns the root element of the document in a frame.
 fn painted_inside(page: &PageTree, node: NodeId) -> Option<NodeId>
     ensures value { option_to_list (option_map number result) ≡ painted_inside page.now.tree (element_at page.now.tree node.0).framed }
     ensures held { IfSome result (λ root. root.0 < length page.now.tree.elements) }
@@ -34,7 +34,7 @@ fn painted_inside(page: &PageTree, node: NodeId) -> Option<NodeId>
     painted_root(page, page.framed(node)?)
 }
 
-// Appends an element and what is below it, so many levels of it.
+// Appends an element and its descendants, down to `high` levels.
 fn paint_down(
     page: &PageTree,
     tree: &Tree<Element>,
@@ -60,14 +60,14 @@ fn paint_down(
     }
 }
 
-/// The elements in the trees of documents that are shown, in the order in which they are painted: the preorder of the tree in
-/// which the root element of a document is the child of its frame (this project's own). Elements without a box are among them.
+/// Returns the elements in the trees of documents that are shown, in paint order: the preorder of the tree in which the root
+/// element of a document is the child of its frame (this project's own rule). Elements without a box are included.
 ///
-/// It calls itself once for each level of that tree.
+/// It recurses once per level of that tree.
 ///
 /// # Errors
 ///
-/// Where there is no memory.
+/// If an allocation fails.
 pub fn paint_order(alloc: Global, page: &PageTree) -> Result<Vec<NodeId>, AllocError>
     ensures { IfOk result (λ painted. map number painted.items ≡ paint_order page.now.tree) }
 {

@@ -1,4 +1,4 @@
-//! Which points hit an element.
+//! Whether a point hits an element.
 
 ghost use Rattle.std.specs.Prelude.{◌≡◌, List};
 ghost use Rattle.element_tree.specs.declared.container.Container.{Container as ContainerOf};
@@ -14,31 +14,32 @@ use px_units::{Point, Rect};
 /// The viewport of the top document.
 const SCREEN: Container = Container::Document(DocumentId(0));
 
-// Whether a place lies between two edges, the first one included and the second one not.
+// Whether a coordinate lies between two edges, including the first but not the second.
 fn is_between(low: i64, high: i64, at: i64) -> bool
     ensures { result ≡ is_between low high at }
 {
     low <= at && at < high
 }
 
-// Whether a point lies in a rectangle: on its left or top edge too, and not on its right or bottom one.
+// Whether a point lies in a rectangle, including its left and top edges but not its right and bottom ones.
 fn has_point(rect: Rect, at: Point) -> bool
     ensures { result ≡ has_point at rect }
 {
     is_between(rect.left, rect.right, at.left) && is_between(rect.top, rect.bottom, at.top)
 }
 
-/// Whether a point of the top document's viewport hits an element by its place: its border box, each clip between it and that viewport,
-/// and the viewport hold the point, their left and top edges included and the right and bottom ones not. No memory.
+/// Whether a point of the top document's viewport hits an element: its border box, each clip between it and that viewport,
+/// and the viewport contain the point, including their left and top edges but not the right and bottom ones. Doesn't
+/// allocate.
 ///
-/// Needs that the element has a box, so that its chain of containers leads to the viewport (`reaches`).
+/// Requires that the element's chain of containers leads to the viewport (`reaches`), as it does if the element has a box.
 pub fn shows_at<G: Geometry>(geometry: &G, node: NodeId, at: Point) -> bool
     requires { IsAbove (G.scene geometry.now) (view_spot 0) (Element node) }
     ensures { (between : List ContainerOf) → Leads (G.scene geometry.now) (Element node) between (view_spot 0) →
         result ≡ shows_between (G.scene geometry.now) at (Element node) between }
 {
     let screen = geometry.bounds(SCREEN);
-    // A point that lies in all of them lies in their common part.
+    // A point that lies in all of them lies in their intersection.
     match visible_rect(geometry, Container::Element(node), SCREEN, screen) {
         Some(part) => has_point(part, at),
         None => false,

@@ -37,9 +37,9 @@ pub some_from : {A B : Type 0} (f : A → B) (found : Option A) (y : B) → opti
 some_from f None y is = cc
 some_from f (Some x) y is = refl
 
-none_from : {A B : Type 0} (f : A → B) (found : Option A) → option_map f found ≡ None → found ≡ None
-none_from f None is = refl
-none_from f (Some x) is = cc
+pub none_mapped : {A B : Type 0} (f : A → B) (found : Option A) → option_map f found ≡ None → found ≡ None
+none_mapped f None is = refl
+none_mapped f (Some x) is = cc
 
 -- a map of places with one more, whose number had none
 more-entries : (held old : ℕ) (found : Bool) → found ≡ false → old ≡ held + (if found then 0 else 1) → old ≡ held + 1
@@ -160,4 +160,4 @@ module _ {S : Type 0} (most_watchers most_registrations : ℕ) where
   -- the next serial number has no place
   pub held-free :
       (places : IndexMap ℕ Place S) (given : ℕ) (made : List IntersectionObserver) → IsHeld places (part_of given made) most_watchers most_registrations → get nat_eq places given ≡ None
-  held-free places given made was = none_from seen_place (get nat_eq places given) (was.told given ∙ was.serials.fresh given (omega arith))
+  held-free places given made was = none_mapped seen_place (get nat_eq places given) (was.told given ∙ was.serials.fresh given (omega arith))

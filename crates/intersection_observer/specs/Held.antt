@@ -1,4 +1,4 @@
--- What these observers keep true.
+-- The invariants of the intersection observers.
 use Rattle.std.specs.Prelude.{◌≡◌, ℕ, ◌≤◌, ◌<◌, ◌^◌, length, nat_eq, option_map}
 use Rattle.indexmap.specs.IndexMap.{IndexMap, get, index_map_len}
 use Rattle.page_model.specs.World.{IntersectionObservers}
@@ -10,7 +10,7 @@ use Rattle.intersection_observer.specs.declared.registration.Place.{Place}
 abbrev pub seen_place : Place → Standing
 seen_place it = record { watcher = it.watcher; target = it.target }
 
--- the places tell of each serial number where its registration stands, and of no other
+-- the places hold the observer and the target for the serial number of each registration, and for no other number
 pub record IsHeld {S : Type 0} (places : IndexMap ℕ Place S) (it : IntersectionObservers) (most_watchers most_registrations : ℕ) : Type 0 where
   pub watchers : length it.made ≤ most_watchers
   pub numbers : most_watchers < 2 ^ 32

@@ -1,4 +1,4 @@
--- Where registrations stand, by their serial numbers.
+-- Registrations by their serial numbers: the observer and the target of each.
 use Rattle.std.specs.Prelude.{◌≡◌, ℕ, suc, Bool, true, ◌==◌, List, [], ◌∷◌, find, Option, None, option_map, is_some}
 use Rattle.std.specs.Option.{option_or}
 use Rattle.page_model.specs.World.{Registration, IntersectionObserver, IntersectionObservers}
@@ -11,11 +11,11 @@ pub record Standing : Type 0 where
 abbrev pub has_serial : ℕ → Registration → Bool
 has_serial serial it = it.serial == serial
 
--- the target of the registration of a serial number among these
+-- the target of the registration with this serial number in a list
 abbrev pub target_in : ℕ → List Registration → Option ℕ
 target_in serial registrations = option_map (λ (it : Registration). it.target) (find (has_serial serial) registrations)
 
--- where it stands among several observers, of which this is the first one's number
+-- its observer and target among several observers, the first of which has the number `watcher`
 abbrev pub standing_from : ℕ → ℕ → List IntersectionObserver → Option Standing
 standing_from serial watcher [] = None
 standing_from serial watcher (it ∷ others) =
@@ -23,7 +23,7 @@ standing_from serial watcher (it ∷ others) =
     (option_map (λ target. record { watcher = watcher; target = target }) (target_in serial (it.registrations)))
     (standing_from serial (suc watcher) others)
 
--- where the registration of a serial number stands, none where there is none
+-- the observer and the target of the registration with a serial number, none if there is no such registration
 abbrev pub standing_of : ℕ → IntersectionObservers → Option Standing
 standing_of serial it = standing_from serial 0 it.made
 

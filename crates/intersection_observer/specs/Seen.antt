@@ -30,7 +30,7 @@ seen_entry it = record { target = it.target.0; time = it.time; finding = seen_fi
 abbrev pub seen_entries : List Entry → List model.Entry
 seen_entries entries = map seen_entry entries
 
--- a registration by its target
+-- a registration, which is kept under its target
 abbrev pub seen_registration : ℕ × Registered → model.Registration
 seen_registration (target, it) = record {
   serial = it.registration.0;

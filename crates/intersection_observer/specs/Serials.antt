@@ -1,4 +1,4 @@
--- A serial number names one registration for good, and an observer has a target at most once.
+-- A serial number identifies one registration permanently, and an observer observes a target at most once.
 use Rattle.std.specs.Prelude.{◌≡◌, ℕ, ◌≤◌, List, map, All, Some, None, nat_eq}
 use Rattle.std.specs.List.{IsDistinct}
 use Rattle.page_model.specs.World.{Registration, IntersectionObservers}
@@ -15,7 +15,7 @@ IsFound it watcher registration = standing_of registration.serial it ≡ Some (r
 abbrev pub targets_of : List Registration → List ℕ
 targets_of registrations = map (λ (it : Registration). it.target) registrations
 
--- those that stand are found, those from `given` on stand nowhere yet, and no target is there twice
+-- each registration is found by its serial number, none has a number from `given` on, and no observer has two for the same target
 pub record HasSerials (it : IntersectionObservers) : Type 0 where
   pub found : (watcher : ℕ) → All (IsFound it watcher) (registrations_at it watcher)
   pub fresh : (serial : ℕ) → it.given ≤ serial → standing_of serial it ≡ None

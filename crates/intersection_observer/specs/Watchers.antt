@@ -1,11 +1,11 @@
--- The intersection observers that this crate keeps: the definitions' part, and how many there may be.
+-- The intersection observers that this crate keeps: the definitions' part of a world, and the limits on it.
 use Rattle.std.specs.Prelude.{ℕ, Bool, ◌==◌, cond, nat_lt, not, length, find, filter, List, Option, option_map}
 use Rattle.page_model.specs.World.{Registration, IntersectionObserver, IntersectionObservers}
 use Rattle.page_model.specs.Lookups.{intersection_observer_at}
 use Rattle.page_model.specs.IntersectionObserving.{is_registered, intersection_observations, with_registration}
 use Rattle.intersection_observer.specs.Serials.{registrations_at}
 
--- the observers with the serial numbers given, and how many observers and registrations there may be
+-- the observers, with how many serial numbers were given, and the limits on observers and registrations
 pub record HeldWatchers : Type 0 where
   pub part : IntersectionObservers
   pub most_watchers : ℕ
@@ -26,11 +26,11 @@ observes watcher n it = is_registered n (watcher_at it watcher).registrations
 abbrev pub may_register : HeldWatchers → Bool
 may_register it = nat_lt (intersection_observations it.part) it.most_registrations
 
--- once a target was observed: one that is there already is left as it is
+-- the observers after a target was observed; an existing registration for it is left as it is
 abbrev pub once_observed : ℕ → ℕ → IntersectionObservers → IntersectionObservers
 once_observed watcher n it = cond (is_registered n (registrations_at it watcher)) it (with_registration watcher n it)
 
--- without the registration for a target
+-- the registrations without the one for a target
 abbrev pub without_target : ℕ → List Registration → List Registration
 without_target n registrations = filter (λ (it : Registration). not (it.target == n)) registrations
 

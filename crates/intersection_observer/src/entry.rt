@@ -1,4 +1,4 @@
-//! What is found of a target, and the entries that tell it.
+//! The findings of an update, and the entries that report them.
 
 ghost use Rattle.std.specs.Prelude.{◌≡◌};
 ghost use Rattle.intersection_observer.specs.Seen.{seen_entries};
@@ -8,34 +8,34 @@ use px_units::Rect;
 use std::marker::Model;
 use thresholds::Ratio;
 
-/// What is found of a target at an update (Intersection Observer, 3.2: update intersection observations). Rectangles are in
+/// What an update computes for a target (Intersection Observer, 3.2: update intersection observations). Rectangles are in
 /// units of 1/64 pixel.
 #[derive(Clone, Copy, Debug)]
 pub struct Finding {
-    /// How many thresholds aren't greater than the ratio.
+    /// The threshold index: the number of thresholds that are at most the ratio.
     pub index: u32,
-    /// Whether target and root have a point in common.
+    /// Whether the target intersects the root (`isIntersecting`); touching edges count.
     pub meets: bool,
-    /// The part of the target that is seen, as areas.
+    /// The intersection ratio, as areas.
     pub ratio: Ratio,
     /// The root rectangle, in the coordinates of the root's document.
     pub root: Rect,
-    /// The target's box, in the coordinates of its document, as the next one.
+    /// The target's box, in the coordinates of its document, like `cut`.
     pub target: Rect,
-    /// What is seen of the target.
+    /// The visible part of the target (`intersectionRect`).
     pub cut: Rect,
 }
 
-/// An entry of a queue (Intersection Observer, 2.3: IntersectionObserverEntry).
+/// A queued entry (Intersection Observer, 2.3: IntersectionObserverEntry).
 #[derive(Clone, Copy, Debug)]
 pub struct Entry {
     pub target: NodeId,
-    /// When this was found, in milliseconds.
+    /// The time of the update, in milliseconds.
     pub time: u64,
     pub finding: Finding,
 }
 
-/// Entries in the order in which they were queued. A clause sees them as a list.
+/// Entries in the order in which they were queued. Contracts see them as a list.
 #[derive(Drop)]
 pub struct EntryList {
     entries: Vec<Entry>,
@@ -59,7 +59,7 @@ impl EntryList {
         EntryList { entries }
     }
 
-    /// The entries, the first one first.
+    /// Returns the entries, oldest first.
     pub fn as_slice(&self) -> &[Entry]
         ensures { seen_entries result.now ≡ self.now }
     {

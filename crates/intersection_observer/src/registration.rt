@@ -1,20 +1,20 @@
-//! Registrations, and what comes of an update of one.
+//! Registrations, and the outcome of updating one.
 
-/// The name of a registration: its serial number, from 0 in order of making. It is never given again.
+/// The id of a registration: its serial number, from 0 in creation order. It is never reused.
 #[derive(Clone, Copy, PartialEq, Eq, Debug)]
 pub struct RegistrationId(pub u64);
 
-/// What an update made of a registration.
+/// The outcome of updating a registration.
 #[derive(Clone, Copy, PartialEq, Eq, Debug)]
 pub enum Settled {
-    /// An entry was queued, since the index or whether they meet differs from before.
+    /// An entry was queued, since the threshold index or whether target and root intersect differs from before.
     Queued,
     /// Both are as before.
     Kept,
 }
 
-/// What is kept of a registration beside its target (Intersection Observer, 3.1: IntersectionObserverRegistration): no
-/// previous index before its first update.
+/// The state of a registration, stored under its target (Intersection Observer, 3.1: IntersectionObserverRegistration); it
+/// has no previous index before its first update.
 #[derive(Clone, Copy)]
 pub(crate) struct Registered {
     pub(crate) registration: RegistrationId,
@@ -22,7 +22,7 @@ pub(crate) struct Registered {
     pub(crate) met: bool,
 }
 
-/// Where a registration stands: at which observer, for which target.
+/// The observer and the target of a registration.
 #[derive(Clone, Copy)]
 pub(crate) struct Place {
     pub(crate) watcher: u32,

@@ -1,12 +1,12 @@
-//! The name of an observer, and its root.
+//! The id of an observer, and its root.
 
 use element_tree::{DocumentId, NodeId};
 
-/// The name of an intersection observer: its number, from 0 in order of making.
+/// The id of an intersection observer: its number, from 0 in creation order.
 #[derive(Clone, Copy, PartialEq, Eq, Debug)]
 pub struct WatcherId(pub u32);
 
-/// What a target is seen in (Intersection Observer, 2.2: `root`).
+/// The root of an observer (Intersection Observer, 2.2: `root`).
 #[derive(Clone, Copy, PartialEq, Eq, Debug)]
 pub enum Root {
     /// The viewport of the top document.

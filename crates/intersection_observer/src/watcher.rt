@@ -26,7 +26,7 @@ pub(crate) struct Watcher {
     root: Root,
     margins: Margins,
     thresholds: Thresholds,
-    // By target in order of observing, and beside it their names in the same order, which are lent as a slice.
+    // By target, in order of observing. `names` has their ids in the same order, so that they can be borrowed as a slice.
     registered: IndexMap<u32, Registered>,
     names: Vec<RegistrationId>,
     queue: Vec<Entry>,
@@ -111,7 +111,7 @@ impl Watcher {
         self.registered.contains_key(&target.0)
     }
 
-    // The target of the last registration.
+    // Returns the target of the last registration.
     pub(crate) fn last_target(&self) -> Option<NodeId>
         ensures some { IfSome result (λ target. is_registered target.0 self.now.registrations ≡ true) }
         ensures none { result ≡ None → self.now.registrations ≡ [] }
@@ -122,7 +122,7 @@ impl Watcher {
         }
     }
 
-    // A new registration, last: with no previous index, and not met.
+    // Appends a new registration, without a previous index and not intersecting.
     pub(crate) fn observe(
         &mut self,
         target: NodeId,
@@ -155,7 +155,7 @@ impl Watcher {
         Some(registered.registration)
     }
 
-    // Stores what was found of a target, with an entry where that is news.
+    // Stores the finding of a target, and queues an entry if it is news.
     pub(crate) fn settle(
         &mut self,
         target: NodeId,
@@ -197,7 +197,7 @@ impl Watcher {
     }
 }
 
-// Whether what was found of a target is news of its registration.
+// Whether the finding of a target is news for its registration.
 fn is_news(target: NodeId, before: Registered, finding: Finding) -> bool
     ensures { result ≡ is_news (seen_registration (target.0, before)) (seen_finding finding) }
 {

@@ -23,26 +23,27 @@ use std::marker::Model;
 use thiserror::Error;
 use thresholds::{Margins, Thresholds};
 
-/// Why a call is refused. A refused call changes nothing.
+/// Why a call failed. A call that fails changes nothing.
 #[derive(Clone, Copy, Debug, PartialEq, Eq, Error)]
 pub enum WatchFault {
-    /// As many as there may be are there.
-    #[error("as many as there may be are there")]
+    /// The maximum number is already present.
+    #[error("the maximum number is already present")]
     Limit,
-    /// There is no memory.
+    /// Out of memory.
     #[error("out of memory")]
     Memory,
 }
 
-/// The intersection observers of a page in order of making, each with its document, its handler, its root, margins and
-/// thresholds, its registrations and its queue of entries (Intersection Observer, 2.2 and 3.1). A clause sees them as the
-/// definitions of a world do, with the number of serial numbers given.
+/// The intersection observers of a page in creation order, each with its document, its handler, its root, margins and
+/// thresholds, its registrations and its queue of entries (Intersection Observer, 2.2 and 3.1). Contracts see them as the
+/// definitions of a world do, with the count of serial numbers given out and the two limits.
 ///
-/// An observer that is handed in is one that these observers made, and a registration one that stands.
+/// Every observer passed in must have been created by this `Watchers`, and every registration must exist (each call
+/// `requires` it).
 #[derive(Drop)]
 pub struct Watchers {
     made: Vec<Watcher>,
-    // Where each registration stands, by its serial number.
+    // The observer and target of each registration, by its serial number.
     places: IndexMap<u64, Place>,
     given: u64,
     most_watchers: u32,
@@ -62,8 +63,8 @@ impl Model for Watchers {
 }
 
 impl Watchers {
-    /// No observers, which take no memory yet. At most `most_watchers` can be made, and at most `most_registrations` targets
-    /// observed, each once for an observer of it.
+    /// Creates an empty set of observers; allocates nothing. At most `most_watchers` can be created, and at most
+    /// `most_registrations` targets observed; a target counts once for each observer that observes it.
     pub fn new(alloc: Global, most_watchers: u32, most_registrations: u32) -> Watchers
         ensures { result ≡ record { part = record { given = 0; made = [] }; most_watchers = most_watchers; most_registrations = most_registrations } }
     {
@@ -76,24 +77,25 @@ impl Watchers {
         }
     }
 
-    /// Whether as many were made as may be, so that `make` answers `Limit`.
+    /// Whether the maximum number was created, so that `make` would return `Limit`.
     pub fn is_full(&self) -> bool
         ensures { result ≡ not (has_room self.now) }
     {
         self.made.len() >= self.most_watchers as usize
     }
 
-    /// How many were made.
+    /// Returns how many were created.
     pub fn count(&self) -> u32
         ensures { result ≡ length self.now.part.made }
     {
         self.made.len() as u32
     }
 
-    /// Makes an observer for a document, with the number of its handler if it has one (Intersection Observer, 2.2: the
+    /// Creates an observer for a document, with the number of its handler if it has one (Intersection Observer, 2.2: the
     /// constructor). It has no targets and an empty queue.
     ///
-    /// `Limit` exactly where `most_watchers` were made; else `Memory` where there is none. The thresholds are dropped then.
+    /// `Limit` exactly when `most_watchers` were created; otherwise `Memory` if an allocation fails. In both cases the
+    /// thresholds are dropped.
     pub fn make(
         &mut self,
         document: DocumentId,
@@ -119,17 +121,17 @@ impl Watchers {
         Ok(WatcherId(number))
     }
 
-    // Whether one more registration may be held.
+    // Whether the limit allows one more registration.
     fn has_space(&self) -> bool
         ensures { result ≡ may_register self.now }
     {
         self.places.len() < self.most_registrations as usize
     }
 
-    /// The registration that `observe` makes for a target where there is memory, which has the next serial number. `None` exactly
-    /// where the target is there, so that none is made.
+    /// Returns the registration that `observe` would create for a target if its allocations succeed: the one with the next
+    /// serial number. `None` exactly when the target is already observed, so that none would be created.
     ///
-    /// `Limit` exactly where the target isn't there and `most_registrations` are held. No memory.
+    /// `Limit` exactly when the target isn't observed and `most_registrations` are held. Doesn't allocate.
     pub fn next_registration(
         &self,
         watcher: WatcherId,
@@ -149,12 +151,12 @@ impl Watchers {
         Ok(Some(RegistrationId(self.given)))
     }
 
-    /// Observes a target (Intersection Observer, 2.2: `observe`): a new registration with the next serial number goes to the
-    /// end of the observer's registrations. It has no previous index, so that its first update queues an entry. `None`, and
-    /// nothing changes, exactly where the target is there.
+    /// Observes a target (Intersection Observer, 2.2: `observe`): appends a new registration with the next serial number to
+    /// the observer's registrations. It has no previous index, so its first update queues an entry. Returns `None`, and
+    /// changes nothing, exactly when the target is already observed.
     ///
-    /// `Limit` exactly where the target isn't there and `most_registrations` are held; else `Memory` where there is none.
-    /// Fewer than 2^64 - 1 serial numbers were given.
+    /// `Limit` exactly when the target isn't observed and `most_registrations` are held; otherwise `Memory` if an allocation
+    /// fails. Requires that fewer than 2^64 - 1 serial numbers have been given out.
     pub fn observe(
         &mut self,
         watcher: WatcherId,
@@ -190,8 +192,8 @@ impl Watchers {
         Ok(Some(registration))
     }
 
-    /// Takes the registration of a target out, and tells which it was; `None` exactly where it isn't there (Intersection
-    /// Observer, 2.2: `unobserve`). The queue stays.
+    /// Removes the registration of a target and returns it; `None` exactly when the target isn't observed (Intersection
+    /// Observer, 2.2: `unobserve`). The queue is unchanged.
     pub fn unobserve(&mut self, watcher: WatcherId, target: NodeId) -> Option<RegistrationId>
         requires { watcher.0 < length self.old.part.made }
         ensures answer { option_map (λ (it : RegistrationId). it.0) result ≡ serial_of target.0 (watcher_at self.old watcher.0).registrations }
@@ -203,7 +205,7 @@ impl Watchers {
         Some(registration)
     }
 
-    /// The target that was observed last of those that an observer observes; `None` exactly where it observes none.
+    /// Returns a target of the observer, the one observed most recently; `None` exactly when it observes none.
     pub fn last_target(&self, watcher: WatcherId) -> Option<NodeId>
         requires { watcher.0 < length self.now.part.made }
         ensures some { IfSome result (λ target. is_registered target.0 (watcher_at self.now watcher.0).registrations ≡ true) }
@@ -212,19 +214,19 @@ impl Watchers {
         self.made[watcher.0 as usize].last_target()
     }
 
-    /// Takes all of an observer's registrations out (Intersection Observer, 2.2: `disconnect`). The queue stays.
+    /// Removes all registrations of an observer (Intersection Observer, 2.2: `disconnect`). The queue is unchanged.
     pub fn disconnect(&mut self, watcher: WatcherId)
         requires { watcher.0 < length self.old.part.made }
         ensures disconnected { self.new ≡ record self.old { part = without_registrations watcher.0 (self.old.part) } }
         ensures count { length self.new.part.made ≡ length self.old.part.made }
     {
-        // From the last one on, so that none has to move.
+        // From last to first, so that none has to be shifted.
         while let Some(target) = self.made[watcher.0 as usize].last_target() {
             self.unobserve(watcher, target);
         }
     }
 
-    /// The registrations of an observer in order of the calls of `observe`.
+    /// Returns the registrations of an observer in order of the calls of `observe`.
     pub fn registrations(&self, watcher: WatcherId) -> &[RegistrationId]
         requires { watcher.0 < length self.now.part.made }
         ensures value { serial_numbers result.now ≡ map (λ (it : Registration). it.serial) (watcher_at self.now watcher.0).registrations }
@@ -235,7 +237,7 @@ impl Watchers {
         self.made[watcher.0 as usize].names()
     }
 
-    // Where a registration stands.
+    // Returns the observer and the target of a registration.
     fn place_of(&self, registration: RegistrationId) -> Place
         requires { IsStanding registration.0 self.now.part }
         ensures value { standing_of registration.0 self.now.part ≡ Some (seen_place result) }
@@ -249,7 +251,7 @@ impl Watchers {
         }
     }
 
-    /// The target of a registration.
+    /// Returns the target of a registration.
     pub fn target_of(&self, registration: RegistrationId) -> NodeId
         requires { IsStanding registration.0 self.now.part }
         ensures { option_map (λ (it : Standing). it.target) (standing_of registration.0 self.now.part) ≡ Some result.0 }
@@ -257,7 +259,7 @@ impl Watchers {
         NodeId(self.place_of(registration).target)
     }
 
-    /// The observer of a registration.
+    /// Returns the observer of a registration.
     pub fn watcher_of(&self, registration: RegistrationId) -> WatcherId
         requires { IsStanding registration.0 self.now.part }
         ensures value { option_map (λ (it : Standing). it.watcher) (standing_of registration.0 self.now.part) ≡ Some result.0 }
@@ -266,7 +268,7 @@ impl Watchers {
         WatcherId(self.place_of(registration).watcher)
     }
 
-    /// The document that an observer was made for.
+    /// Returns the document that an observer was created for.
     pub fn document_of(&self, watcher: WatcherId) -> DocumentId
         requires { watcher.0 < length self.now.part.made }
         ensures { result.0 ≡ (watcher_at self.now watcher.0).document }
@@ -274,7 +276,7 @@ impl Watchers {
         self.made[watcher.0 as usize].document()
     }
 
-    /// The number of an observer's handler, none where it has none.
+    /// Returns the number of an observer's handler, `None` if it has none.
     pub fn handler_of(&self, watcher: WatcherId) -> Option<u32>
         requires { watcher.0 < length self.now.part.made }
         ensures { result ≡ (watcher_at self.now watcher.0).handler }
@@ -282,7 +284,7 @@ impl Watchers {
         self.made[watcher.0 as usize].handler()
     }
 
-    /// The root of an observer.
+    /// Returns the root of an observer.
     pub fn root_of(&self, watcher: WatcherId) -> Root
         requires { watcher.0 < length self.now.part.made }
         ensures { seen_root result ≡ (watcher_at self.now watcher.0).root }
@@ -290,7 +292,7 @@ impl Watchers {
         self.made[watcher.0 as usize].root()
     }
 
-    /// The root margins of an observer.
+    /// Returns the root margins of an observer.
     pub fn margins_of(&self, watcher: WatcherId) -> &Margins
         requires { watcher.0 < length self.now.part.made }
         ensures { result.now ≡ (watcher_at self.now watcher.0).margins }
@@ -298,7 +300,7 @@ impl Watchers {
         self.made[watcher.0 as usize].margins()
     }
 
-    /// The thresholds of an observer.
+    /// Returns the thresholds of an observer.
     pub fn thresholds_of(&self, watcher: WatcherId) -> &Thresholds
         requires { watcher.0 < length self.now.part.made }
         ensures { result.now ≡ (watcher_at self.now watcher.0).thresholds }
@@ -306,11 +308,11 @@ impl Watchers {
         self.made[watcher.0 as usize].thresholds()
     }
 
-    /// Stores what was found of a registration's target at a time, and queues an entry at its observer exactly where the
-    /// index or whether they meet differs from before (Intersection Observer, 3.2: update intersection observations). Where
-    /// there was no update before, the index differs from every index.
+    /// Stores the finding of a registration's target at a time, and queues an entry at its observer exactly when `index` or
+    /// `meets` differs from before (Intersection Observer, 3.2: update intersection observations). The first update of a
+    /// registration always queues one.
     ///
-    /// Only an entry takes memory; where it is refused, nothing changes.
+    /// Only queueing an entry allocates; if that fails, nothing changes.
     pub fn settle(
         &mut self,
         registration: RegistrationId,
@@ -329,8 +331,7 @@ impl Watchers {
         self.made[place.watcher as usize].settle(NodeId(place.target), time, finding)
     }
 
-    /// Hands the queue of an observer out, and leaves it empty (Intersection Observer, 2.2: `takeRecords`). It takes no
-    /// memory.
+    /// Takes the queue of an observer, leaving it empty (Intersection Observer, 2.2: `takeRecords`). It doesn't allocate.
     pub fn take_records(&mut self, watcher: WatcherId) -> EntryList
         requires { watcher.0 < length self.old.part.made }
         ensures taken { result ≡ (watcher_at self.old watcher.0).queue }

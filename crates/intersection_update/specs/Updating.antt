@@ -1,4 +1,4 @@
--- What an update of a document's intersection observers comes to (Intersection Observer, 3.2.10: run the update intersection
+-- The result of updating a document's intersection observers (Intersection Observer, 3.2.10: run the update intersection
 -- observations steps).
 use Rattle.std.specs.Prelude.{◌≡◌, ℕ, ◌+◌, ◌==◌, Bool, true, cond, List, length, take, slice_get, count_by, Some}
 use Rattle.std.specs.List.{list_any}
@@ -15,26 +15,26 @@ use Rattle.intersection_observer.specs.Watchers.{HeldWatchers}
 use Rattle.candidate_index.specs.Registrations.{serials_at}
 use Rattle.intersection_update.specs.Watching.{AreWatchers}
 
--- what is found by the number of an observer, through its scroll margins
+-- what the observer with this number finds, through its scroll margins
 abbrev pub found_through : Shown → List Margins → ℕ → IntersectionObserver → ℕ → Finding
 found_through shown margins watcher = finding shown (scroll_margins_at margins watcher)
 
--- the observers whose roots are a document's, settled by what is found in a world
+-- the observers, after those whose root is the document or in its tree were settled by what is found in the page as shown
 abbrev pub updated : Shown → List Margins → Tree → ℕ → ℕ → IntersectionObservers → IntersectionObservers
 updated shown margins tree document time it = settling time (found_through shown margins) (watchers tree document it) it
 
--- whether an update queued an entry at one of them, so that the document has to be told
+-- whether an update queued an entry for one of these observers, so that the document has to be notified
 abbrev pub has_news : Tree → ℕ → IntersectionObservers → IntersectionObservers → Bool
 has_news tree document before now = list_any (has_queued before now) (watchers tree document before)
 
--- observers that find the same
+-- observers with the same root, root margin and thresholds
 pub record AreAlike (a b : IntersectionObserver) : Type 0 where
   pub root : b.root ≡ a.root
   pub margins : b.margins ≡ a.margins
   pub thresholds : b.thresholds ≡ a.thresholds
 
--- each registration stands where it stood, in the order that there was, at an observer that finds the same, and no serial number is
--- there twice if none was
+-- each registration has the same observer and the same target as before, in the same order; the observers are those that there
+-- were, with the same root, root margin and thresholds; and serial numbers stay unique if they were
 pub record Carried (before after : IntersectionObservers) : Type 0 where
   pub standing : (serial : ℕ) → standing_of serial after ≡ standing_of serial before
   pub alike : (watcher : ℕ) → AreAlike (intersection_observer_at before watcher) (intersection_observer_at after watcher)
@@ -42,49 +42,51 @@ pub record Carried (before after : IntersectionObservers) : Type 0 where
   pub serials : HasSerials before → HasSerials after
   pub count : length after.made ≡ length before.made
 
--- what every change of an update leaves as it is
+-- what no change of an update alters
 pub record AreKept (elements : ℕ) (before now : HeldWatchers) : Type 0 where
   pub rest : record before { part = now.part } ≡ now
   pub carried : Carried before.part now.part
   pub given : now.part.given ≡ before.part.given
   pub written : AreWatchers elements before.part.made → AreWatchers elements now.part.made
 
--- the first registrations of an observer settled, one after the other
+-- the observers after the first `place` registrations of one of them were settled, one after the other
 abbrev pub first_settled : Shown → List Margins → ℕ → ℕ → ℕ → IntersectionObservers → IntersectionObservers
 first_settled shown margins time watcher place it =
     each_settled time (found_through shown margins watcher (intersection_observer_at it watcher)) (take place (registrations_at it watcher)) it
 
--- an observer whose first registrations were settled, and no others
+-- the registrations of an observer up to some place were settled, and no others
 pub record IsBegun (shown : Shown) (margins : List Margins) (time watcher : ℕ) (before now : IntersectionObservers) : Type 0 where
   pub place : ℕ
   pub settled : now ≡ first_settled shown margins time watcher place before
 
--- the observers whose roots are a document's, among the first ones alone
+-- the same as `updated` for the first `number` observers only
 abbrev pub first_updated : Shown → List Margins → Tree → ℕ → ℕ → ℕ → IntersectionObservers → IntersectionObservers
 first_updated shown margins tree document time number it =
     settling time (found_through shown margins) (watchers tree document (record it { made = take number (it.made) })) it
 
--- an update that stopped at a registration: what came before it is settled, and nothing else
+-- an update that stopped at a registration: all that came before it is settled, and nothing else
 pub record IsStopped (shown : Shown) (margins : List Margins) (tree : Tree) (document time : ℕ) (before now : IntersectionObservers) : Type 0 where
   pub number : ℕ
   pub place : ℕ
   pub settled : now ≡ first_settled shown margins time number place (first_updated shown margins tree document time number before)
 
--- an observer of this number settled if its root is a document's
+-- the observer with this number, settled if its root is the document or in its tree
 abbrev pub settled_if_rooted : Shown → List Margins → Tree → ℕ → ℕ → ℕ → IntersectionObserver → IntersectionObserver
 settled_if_rooted shown margins tree document time watcher observer =
     cond (is_rooted_in tree document (observer.root)) (settled_observer time (found_through shown margins watcher) observer) observer
 
--- whether an entry is of a target
+-- whether an entry is for a target
 abbrev pub is_of : ℕ → Entry → Bool
 is_of target entry = target == entry.target
 
--- the registration at a place holds what is found of its target, and there is one entry more of that exactly where it is news
+-- the registration at a place holds what was found of its target, and the queue has one more entry for that target exactly if
+-- this is news
 pub record IsSettledBy (found : Finding) (registration : Registration) (place : ℕ) (before now : IntersectionObserver) : Type 0 where
   pub stored : slice_get now.registrations place ≡ Some (record registration { previous_index = Some (found.index); met = found.meets })
   pub entries : count_by (is_of registration.target) now.queue ≡ count_by (is_of registration.target) before.queue + cond (is_news registration found) 1 0
 
--- each registration of the observers that are looked at with a document holds what is found of its target, and got one entry exactly where that is news
+-- each registration that an update of the document looks at holds what was found of its target, and got one entry exactly if that
+-- is news
 abbrev pub AreSettled : Shown → List Margins → ℕ → (before now : IntersectionObservers) → Type 0
 AreSettled shown margins document before now =
     (watcher place : ℕ) (registration : Registration) → is_rooted_in shown.tree document (intersection_observer_at before watcher).root ≡ true → slice_get (registrations_at before watcher) place ≡ Some registration →

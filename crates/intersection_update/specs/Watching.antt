@@ -5,7 +5,7 @@ use Rattle.trace_text.specs.Ranges.{RectReaches}
 use Rattle.page_model.specs.World.{Entry, Registration, IntersectionObserver}
 use Rattle.intersection_observer.specs.declared.root.WatcherId.{WatcherId}
 
--- an entry of an element that there is, with rectangles that can be written
+-- an entry for an element that exists, with rectangles in the range that can be written
 pub record IsWritten (elements : ℕ) (entry : Entry) : Type 0 where
   pub target : entry.target < elements
   pub root : RectReaches entry.finding.root

@@ -1,4 +1,4 @@
-//! What an update comes to, registration by registration: a law is the clause of a function that does nothing.
+//! The effect of an update, registration by registration, stated as the contract of an empty function.
 
 ghost use Rattle.std.specs.Prelude.{◌≡◌, ℕ, List, Some, true, false, slice_get};
 ghost use Rattle.script_model.specs.Margins.{Margins};
@@ -9,8 +9,8 @@ ghost use Rattle.page_model.specs.Intersections.{is_rooted_in};
 ghost use Rattle.intersection_observer.specs.Serials.{HasSerials, registrations_at};
 ghost use Rattle.intersection_update.specs.Updating.{found_through, updated, IsSettledBy};
 
-/// Each registration of the observers that are looked at with a document holds the index and isIntersecting that are found of its target,
-/// and got one entry where one of the two differs from what it held before, else none. All other observers are left as they are.
+/// Each registration of the observers that are updated with a document has the current threshold index and isIntersecting of
+/// its target, and got one entry if one of the two differs from before, otherwise none. All other observers are unchanged.
 pub fn an_update_settles_each_registration_once()
     ensures each { (shown : Shown) (margins : List Margins) (document time watcher place : ℕ) (registration : Registration) (it : IntersectionObservers) → HasSerials it →
         is_rooted_in shown.tree document (intersection_observer_at it watcher).root ≡ true → slice_get (registrations_at it watcher) place ≡ Some registration →

@@ -1,5 +1,6 @@
-//! What an update of a document finds of each registration is settled at its observer (Intersection Observer, 3.2.10: run
-//! the update intersection observations steps). All lengths are in units of 1/64 CSS pixel, times in milliseconds.
+//! The update of a document's intersection observations: computes the stale findings and settles them (Intersection Observer,
+//! 3.2.10: run the update intersection observations steps). All lengths are in units of 1/64 CSS pixel, times in
+//! milliseconds.
 #![tactic(auto)]
 
 mod laws;

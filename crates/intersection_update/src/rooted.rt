@@ -1,4 +1,4 @@
-//! Which observers are looked at with a document.
+//! The observers that are updated with a document.
 
 ghost use Rattle.std.specs.Prelude.{◌≡◌, ◌<◌, All, IfOk, length};
 ghost use Rattle.page_model.specs.Documents.{is_number, tree_document};
@@ -13,7 +13,7 @@ use intersection_observer::{Root, WatcherId, Watchers};
 use page_tree::PageTree;
 use std::alloc::{AllocError, Global};
 
-// Whether an element stands in the tree of a document: not where there is no such element.
+// Whether an element is in the tree of a document; false if there is no such element.
 fn stands_in(page: &PageTree, node: NodeId, document: DocumentId) -> bool
     ensures { result ≡ is_number (tree_document page.now.tree node.0) document.0 }
 {
@@ -26,8 +26,8 @@ fn stands_in(page: &PageTree, node: NodeId, document: DocumentId) -> bool
     }
 }
 
-// Whether an observer with this root is looked at with a document: where the root is the document or stands in its tree;
-// with the implicit root, for the top document.
+// Whether an observer with this root is updated with a document: if the root is the document or is in its tree; with the
+// implicit root, if it is the top document.
 fn is_rooted_in(page: &PageTree, root: Root, document: DocumentId) -> bool
     ensures { result ≡ is_rooted_in page.now.tree document.0 (seen_root root) }
 {
@@ -38,8 +38,8 @@ fn is_rooted_in(page: &PageTree, root: Root, document: DocumentId) -> bool
     }
 }
 
-/// Whether an observer is looked at with a document, by its root alone: for which document it was made makes no difference.
-/// No memory.
+/// Whether an observer is updated with a document, which depends on its root alone, not on the document that it was created
+/// for. Doesn't allocate.
 pub(crate) fn is_looked_at(
     page: &PageTree,
     watchers: &Watchers,
@@ -52,13 +52,13 @@ pub(crate) fn is_looked_at(
     is_rooted_in(page, watchers.root_of(watcher), document)
 }
 
-/// The observers that are looked at with a document, in order of creation: those whose root is the document or stands in
-/// its tree, and for the top document those with the implicit root (Intersection Observer, 3.2.10: run the update
-/// intersection observations steps).
+/// Returns the observers that are updated with a document, in creation order: those whose root is the document or is in its
+/// tree, and for the top document those with the implicit root (Intersection Observer, 3.2.10: run the update intersection
+/// observations steps).
 ///
 /// # Errors
 ///
-/// Where there is no memory.
+/// If an allocation fails.
 pub fn watchers_of(
     alloc: Global,
     page: &PageTree,

@@ -1,4 +1,4 @@
-//! What is stale, found anew and settled.
+//! Stale registrations, recomputed and settled.
 
 ghost use Rattle.std.specs.Prelude.{◌≡◌, ◌⊎◌, ◌<◌, ◌≤◌, ◌+◌, ℕ, All, false, length, IfOk, OnOk, OnErr};
 ghost use Rattle.page_model.specs.Lookups.{change_intersection_observer};
@@ -27,7 +27,7 @@ use std::sync::ledger::Ledger;
 use step_count::Steps;
 use thresholds::Margins;
 
-// It tells that each registration has a serial number of its own.
+// Yields that serial numbers are unique.
 fn tell_serials(watchers: &Watchers)
     ensures { HasSerials watchers.now.part }
 {
@@ -36,7 +36,7 @@ fn tell_serials(watchers: &Watchers)
     }
 }
 
-// Settles the registrations of an observer that are stale, and tells whether an entry was queued.
+// Settles the stale registrations of an observer, and returns whether an entry was queued.
 fn settle_stale<L: Ledger>(
     shown: &Shown<'_>,
     watchers: &mut Watchers,
@@ -73,12 +73,12 @@ fn settle_stale<L: Ledger>(
     ensures paid { (chained : HaveChains shown.now) → OnOk result (steps.new ≤ steps.old + steps_at shown.now scroll_margins.now chained watchers.old.part (serials_at watchers.old.part watcher.0) findings.old findings.new) }
     ensures refused { (chained : HaveChains shown.now) → OnErr result (IsRefusedAt shown.now scroll_margins.now chained time watcher.0 watchers.old.part watchers.new.part findings.old.kept findings.new.kept) }
 {
-    // It tells that chains lead to roots.
+    // Yields that chains lead to roots.
     shown.document_count();
-    // It tells that each registration has a serial number of its own.
+    // Yields that serial numbers are unique.
     watchers.registrations(watcher);
     findings.look(shown, looks, watchers, watcher);
-    // It tells that no clip was computed at a touch to come.
+    // Yields that no clip was computed at a future touch.
     findings.clips();
     let stale = findings.stale_registrations(
         shown,
@@ -104,17 +104,20 @@ fn settle_stale<L: Ledger>(
     Ok(queued)
 }
 
-/// Settles what is found of each registration of the observers whose root is a document or stands in its tree, through the scroll
-/// margins of each, which are listed by the observers' numbers, at a time in milliseconds, and tells whether an entry was queued at one of them, so that the document's notify task is due (Intersection
-/// Observer, 3.2.10: run the update intersection observations steps).
+/// Updates the intersection observations of a document at a time in milliseconds: settles the current finding of each
+/// registration of the observers whose root is the document or is in its tree (for the top document also those with the
+/// implicit root), through the scroll margins of each observer, which are listed by the observers' numbers. Returns whether
+/// an entry was queued at one of them, so that the document's notify task is due (Intersection Observer, 3.2.10: run the
+/// update intersection observations steps).
 ///
-/// Only the stale registrations are computed: the spots on the chains of all of them are looked at, and what is found of the others is
-/// no news. It takes a step for each finding that is computed, and one for each spot strictly between a target and its root where the
-/// clip between them is.
+/// Only stale registrations are recomputed: the spots on the chains of all of them are looked at, and the findings of the
+/// others are no news. It takes a step for each finding computed, and for each clip computed one for each spot strictly
+/// between the target and its root.
 ///
 /// # Errors
 ///
-/// Where there is no memory for an entry or a list: the registrations before it are settled then, and nothing else is changed.
+/// If an entry or a list can't be allocated: the registrations before it are settled then, and no other registration or queue
+/// is changed.
 pub fn update<L: Ledger>(
     shown: &Shown<'_>,
     watchers: &mut Watchers,
@@ -151,7 +154,7 @@ pub fn update<L: Ledger>(
     ensures ticks { (chained : HaveChains shown.now) → OnOk result (steps.new ≤ steps.old + most_steps shown.now scroll_margins.now chained document.0 watchers.old.part findings.old findings.new) }
     ensures refused { (chained : HaveChains shown.now) → OnErr result (IsRefused shown.now scroll_margins.now chained document.0 time watchers.old.part watchers.new.part findings.old.kept findings.new.kept) }
 {
-    // It tells that chains lead to roots.
+    // Yields that chains lead to roots.
     shown.document_count();
     tell_serials(watchers);
     let mut looks = findings.looks()?;
@@ -159,7 +162,7 @@ pub fn update<L: Ledger>(
     for number in 0..watchers.count() {
         let watcher = WatcherId(number);
         if is_looked_at(shown.page(), watchers, watcher, document) {
-            // It tells that no spot was touched at a touch to come.
+            // Yields that no spot was touched at a future touch.
             findings.clips();
             queued |= settle_stale(
                 shown,

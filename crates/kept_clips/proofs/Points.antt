@@ -4,6 +4,7 @@ use Rattle.std.specs.Prelude.{filter_map, fold, int_le, pos, ◌≤ℤ◌}
 use Rattle.std.specs.List.{All, cons_option}
 use Rattle.std.proofs.lemmas.Int.{ints}
 use Rattle.std.proofs.lemmas.List.Elements.{All-head, All-tail, All-cons}
+use Rattle.std.proofs.lemmas.Bool.{and_parts}
 use Rattle.px_units.specs.declared.Rect.{Rect}
 use Rattle.px_units.specs.Rects.{has_points, overlap, Holds, HeldBy}
 use Rattle.page_model.specs.Chains.{common_part}
@@ -13,7 +14,6 @@ use Rattle.clip_chain.proofs.Parts.{HoldsAll, held_by_part}
 use Rattle.kept_clips.specs.declared.clip.Clip.{Clip}
 use Rattle.kept_clips.specs.declared.clip.Clip.TheVariants.{Whole, Cut, Nothing}
 use Rattle.kept_clips.specs.Clips.{cut_or_nothing, common_clip, clip_between, Contains, IsWithin}
-use Rattle.kept_clips.proofs.Testing.{both}
 use Rattle.clip_chain.proofs.Seen.{first_apart, first_joined}
 
 within_each : (scene : Scene) (spots : List Container) (x y : ℤ) → HoldsAll x y (filter_map (scene.clip) spots) → All (IsWithin scene x y) spots
@@ -110,7 +110,7 @@ same_le a = omega (arith, ints)
 
 corner : (part : Rect) → has_points part ≡ true → Holds part part.left part.top
 corner part e =
-    let parts = both (int_le part.left part.right) (int_le part.top part.bottom) e in
+    let parts = and_parts (int_le part.left part.right) (int_le part.top part.bottom) e in
     record {
       right_of_left = same_le part.left;
       left_of_right = less part.left part.right parts.0;

@@ -3,6 +3,7 @@ use Rattle.std.proofs.Common.{◌≡◌, ◌∙◌, ℕ, suc, ◌<◌, ◌≤◌
 use Rattle.std.specs.Prelude.{filter_map, IfSome}
 use Rattle.std.specs.List.{list_all, cons_option}
 use Rattle.std.proofs.lemmas.Bool.Decides.{nat_tests}
+use Rattle.std.proofs.lemmas.Bool.{and_parts}
 use Rattle.px_units.specs.declared.Rect.{Rect}
 use Rattle.element_tree.specs.declared.container.Container.{Container}
 use Rattle.element_tree.specs.declared.container.Container.TheVariants.{Element, Document}
@@ -16,7 +17,6 @@ use Rattle.kept_clips.specs.Held.{HeldClips, pair_of}
 use Rattle.kept_clips.specs.Numbers.{IsNumbered, AreNumbered}
 use Rattle.kept_clips.specs.Scenes.{DiffersOnlyAt}
 use Rattle.kept_clips.proofs.Spots.{other_node, other_view, same_or_apart}
-use Rattle.kept_clips.proofs.Testing.{both}
 
 -- the last touches afterwards
 
@@ -42,7 +42,7 @@ later count since last one two e = grind (arith, nat_tests)
 apart_all : (of : Container) (it : Touched) (since : ℕ) → IsAdded it of → since ≤ it.count → since < last_number → (spots : List Container) → list_all (is_untouched (touched of it) since) spots ≡ true → AreApart of spots
 apart_all of it since added early below [] e = tt
 apart_all of it since added early below (spot ∷ spots) e =
-    let parts = both (is_untouched (touched of it) since spot) (list_all (is_untouched (touched of it) since) spots) e in (
+    let parts = and_parts (is_untouched (touched of it) since spot) (list_all (is_untouched (touched of it) since) spots) e in (
       (λ same. later it.count since last_number early below
           (ap (λ n. nat_le n since) (sym (touched_here of it (min (suc it.count) last_number) added))
           ∙ ap (λ (s : Container). nat_le (last_touch (touched of it) s) since) (sym same)
@@ -56,7 +56,7 @@ tested of spot it since apart e = ap (λ n. nat_le n since) (sym (untouched_ther
 all_tested : (of : Container) (it : Touched) (since : ℕ) (spots : List Container) → AreApart of spots → list_all (is_untouched (touched of it) since) spots ≡ true → list_all (is_untouched it since) spots ≡ true
 all_tested of it since [] apart e = refl
 all_tested of it since (spot ∷ spots) apart e =
-    let parts = both (is_untouched (touched of it) since spot) (list_all (is_untouched (touched of it) since) spots) e in
+    let parts = and_parts (is_untouched (touched of it) since spot) (list_all (is_untouched (touched of it) since) spots) e in
     ap (λ b. b && list_all (is_untouched it since) spots) (tested of spot it since apart.0 parts.0)
     ∙ all_tested of it since spots apart.1 parts.1
 
@@ -84,7 +84,7 @@ exact_still : (of : Container) (it : Touched) (before after : Scene) → IsAdded
 exact_still of it before after added only root from between None numbered exact lead current = tt
 exact_still of it before after added only root from between (Some c) numbered exact lead current =
     let chain = from ∷ (between ++ root ∷ []) in
-    let parts = both (nat_lt c.touches last_number) (list_all (is_untouched (touched of it) c.touches) chain) current in
+    let parts = and_parts (nat_lt c.touches last_number) (list_all (is_untouched (touched of it) c.touches) chain) current in
     let below : c.touches < last_number = grind (arith, nat_tests, parts.0) in
     let aparts = apart_all of it c.touches added numbered below chain parts.1 in
     let between_apart = front of between root aparts.1 in
@@ -96,7 +96,7 @@ exact_still of it before after added only root from between (Some c) numbered ex
 pub stood : (of : Container) (it : Touched) (computed : Option Computed) (chain : List Container) → IsAdded it of → IsNumbered it.count computed → stands (touched of it) computed chain ≡ true → stands it computed chain ≡ true
 stood of it None chain added numbered current = current
 stood of it (Some c) chain added numbered current =
-    let parts = both (nat_lt c.touches last_number) (list_all (is_untouched (touched of it) c.touches) chain) current in
+    let parts = and_parts (nat_lt c.touches last_number) (list_all (is_untouched (touched of it) c.touches) chain) current in
     let below : c.touches < last_number = grind (arith, nat_tests, parts.0) in
     ap (λ b. b && list_all (is_untouched it c.touches) chain) parts.0
     ∙ all_tested of it c.touches chain (apart_all of it c.touches added numbered below chain parts.1) parts.1

@@ -1,5 +1,5 @@
--- What several clips leave together (Intersection Observer, 3.2.7). That an edge in common is enough is this project's own
--- reading.
+-- The intersection of several clips (Intersection Observer, 3.2.7). That rectangles with only an edge in common intersect is this
+-- project's own reading.
 use Rattle.std.specs.Prelude.{ℤ, List, [], ◌∷◌, filter_map, Option, Some, None, IfSome}
 use Rattle.px_units.specs.declared.Rect.{Rect}
 use Rattle.px_units.specs.Rects.{meeting, Holds}
@@ -13,12 +13,12 @@ abbrev pub cut_or_nothing : Option Rect → Clip
 cut_or_nothing None = Nothing
 cut_or_nothing (Some part) = Cut part
 
--- the common part of rectangles: whole where there are none, nothing where no point is common
+-- the intersection of rectangles: `Whole` if there are none, `Nothing` if they have no point in common
 abbrev pub common_clip : List Rect → Clip
 common_clip [] = Whole
 common_clip (first ∷ others) = cut_or_nothing (common_part first others)
 
--- the common part of what some spots clip to; a spot that doesn't clip counts for nothing
+-- the intersection of the clips of some spots; a spot that doesn't clip makes no difference
 abbrev pub clip_between : Scene → List Container → Clip
 clip_between scene between = common_clip (filter_map (scene.clip) between)
 
@@ -27,11 +27,11 @@ Contains Whole x y = Unit {0}
 Contains (Cut part) x y = Holds part x y
 Contains Nothing x y = ⊥
 
--- whether a point is within what a spot clips to; a spot that doesn't clip has every point
+-- a point is within the clip of a spot; every point is if the spot doesn't clip
 abbrev pub IsWithin : Scene → ℤ → ℤ → Container → Type 0
 IsWithin scene x y spot = IfSome (scene.clip spot) (λ (clip : Rect). Holds clip x y)
 
--- what a further rectangle leaves
+-- a clip intersected with one more rectangle
 abbrev pub clipped : Clip → Rect → Clip
 clipped Whole by = cut_or_nothing (meeting by by)
 clipped (Cut common) by = cut_or_nothing (meeting common by)

@@ -12,22 +12,22 @@ pub record HeldClips : Type 0 where
   pub touches : Touched
   pub pairs : FinMap nat_cmp Pair
 
--- the pair of a number, none where none is held
+-- the pair with a number, none if none is held
 abbrev pub pair_at : HeldClips → ℕ → Option Pair
 pair_at it number = get it.pairs number
 
 abbrev pub IsHeld : HeldClips → ℕ → Type 0
 IsHeld it number = IsSome (pair_at it number)
 
--- a pair of which no clip was computed
+-- a pair for which no clip was computed
 abbrev pub new_pair : Container → Container → Pair
 new_pair root of = record { root = root; of = of; computed = None }
 
--- the pair of a number that is held
+-- the pair with a number, which is held
 abbrev pub pair_of : HeldClips → ℕ → Pair
 pair_of it number = unwrap_or (pair_at it number) (new_pair (view_spot 0) (view_spot 0))
 
--- the spots of a pair, and those of the pair of a number
+-- the spots of a pair, and those of the pair with a number
 
 abbrev pub spots_of : Pair → Container × Container
 spots_of pair = (pair.root, pair.of)
@@ -41,10 +41,10 @@ with_pair number root of it = record it { pairs = insert (it.pairs) number (new_
 abbrev pub without_pair : ℕ → HeldClips → HeldClips
 without_pair number it = record it { pairs = remove (it.pairs) number }
 
--- a pair whose clip is computed now
+-- a pair after its clip was computed, with the current count of touches
 abbrev pub computed_now : Clip → Touched → Pair → Pair
 computed_now clip touches pair = record pair { computed = Some (record { clip = clip; touches = touches.count }) }
 
--- once the clip of a pair was computed
+-- what is held after the clip of a pair was computed
 abbrev pub with_clip : ℕ → Clip → HeldClips → HeldClips
 with_clip number clip it = record it { pairs = insert (it.pairs) number (computed_now clip (it.touches) (pair_of it number)) }

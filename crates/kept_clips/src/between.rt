@@ -14,7 +14,7 @@ use element_tree::Container;
 use std::sync::ledger::Ledger;
 use step_count::Steps;
 
-// Whether no spot of a chain was touched since there were so many touches.
+// Whether no spot of a chain was touched since the given touch count.
 pub(crate) fn is_untouched<G: Geometry>(
     touches: &Touches,
     geometry: &G,
@@ -39,7 +39,7 @@ pub(crate) fn is_untouched<G: Geometry>(
     true
 }
 
-// The common part of the clips strictly between, with a step for each spot there.
+// Returns the intersection of the clips strictly between, taking one step for each spot there.
 pub(crate) fn clip_between<G: Geometry, L: Ledger>(
     geometry: &G,
     root: Container,

@@ -1,14 +1,14 @@
-//! What several clips leave.
+//! The intersection of several clips.
 
 ghost use Rattle.std.specs.Prelude.{◌≡◌};
 ghost use Rattle.kept_clips.specs.Clips.{clipped, clipped_if};
 
 use px_units::{Rect, meet};
 
-/// The common part of clips, edges included.
+/// The intersection of clips, edges included.
 #[derive(Clone, Copy, Debug, PartialEq, Eq)]
 pub enum Clip {
-    /// There are no clips: every point is in it.
+    /// There are no clips: all points.
     Whole,
     /// The points that all of them have in common.
     Cut(Rect),
@@ -16,7 +16,7 @@ pub enum Clip {
     Nothing,
 }
 
-// What a further rectangle leaves of a rectangle.
+// Intersects a rectangle with a further one.
 fn cut(common: Rect, by: Rect) -> Clip
     ensures { result ≡ clipped (Clip.Cut common) by }
 {
@@ -27,7 +27,7 @@ fn cut(common: Rect, by: Rect) -> Clip
 }
 
 impl Clip {
-    // What a further clip leaves, if there is one.
+    // Intersects with a further clip, if there is one.
     pub(crate) fn clipped(self, by: Option<Rect>) -> Clip
         ensures { result ≡ clipped_if self by }
     {

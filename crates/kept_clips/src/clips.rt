@@ -1,4 +1,4 @@
-//! The pairs whose clips are kept.
+//! The pairs whose clips are cached.
 
 ghost use Rattle.std.specs.Prelude.{◌≡◌, ◌↔◌, ◌+◌, ◌≤◌, ℕ, ℤ, List, [], length, true, false, None, IsOk, OnOk, OnErr};
 ghost use Rattle.std.specs.List.{All};
@@ -24,13 +24,13 @@ use std::marker::Model;
 use std::sync::ledger::Ledger;
 use step_count::Steps;
 
-/// Pairs of a root and a spot that stands in it, each with the clip strictly between the two once it was computed, and when
-/// each spot was touched last. A clause sees the pairs by their numbers, which the caller gives, and the number of each spot's
-/// last touch.
+/// Pairs of a root and a spot below it, each with the clip strictly between the two once it was computed, and when each spot
+/// was touched last. Contracts see the pairs by their numbers, which the caller assigns, and the number of each spot's last
+/// touch.
 ///
-/// A clip is handed out as it is held while no spot on the chain from the pair's spot to its root, these two included, was
-/// touched since it was computed. So a caller touches each spot whose container or clip differs from what it was. Touches are
-/// counted up to 2^64 - 1; a clip that is computed then is never handed out again without being computed anew.
+/// A stored clip is reused while no spot on the chain from the pair's spot to its root, both included, was touched since it
+/// was computed. So callers must touch each spot whose container or clip changed. Touches are counted up to 2^64 - 1; a clip
+/// computed after that is never reused.
 #[derive(Drop)]
 pub struct Clips {
     touches: Touches,
@@ -55,7 +55,7 @@ impl Model for Clips {
 }
 
 impl Clips {
-    /// No pairs, and no spot that was touched; it takes no memory yet.
+    /// Creates an empty cache without pairs or spots; allocates nothing.
     pub fn new(alloc: Global) -> Clips
         ensures empty { result ≡ record { touches = record { count = 0; nodes = []; views = [] }; pairs = empty } }
         ensures exact { (scene : Scene) (number : ℕ) → IsExact scene result number }
@@ -66,16 +66,16 @@ impl Clips {
         }
     }
 
-    /// Whether a spot was added, so that it may be touched.
+    /// Whether a spot was added, as `touch` requires.
     pub fn is_added(&self, of: Container) -> bool
         ensures { result ≡ is_added self.now.touches of }
     {
         self.touches.is_added(of)
     }
 
-    /// Adds a spot, so that it may be touched, with all spots of its kind that have lower numbers. It needn't stand anywhere
-    /// yet; spots that were added stay as they are. Refused only for want of memory, and never where the spot was added; nothing
-    /// changes then.
+    /// Adds a spot, so that it may be touched, with all spots of its kind that have lower numbers. It needn't be in a tree
+    /// yet; spots already added are unchanged. Fails only if an allocation fails, never if the spot was already added;
+    /// nothing changes then.
     pub fn add(&mut self, of: Container) -> Result<(), AllocError>
         ensures added { OnOk result (self.new ≡ record self.old { touches = with_spot of (self.old.touches) }) }
         ensures same { OnErr result (self.new ≡ self.old) }
@@ -85,8 +85,8 @@ impl Clips {
         self.touches.add(of)
     }
 
-    /// Touches a spot: what hangs on its container and its clip is computed anew when it is asked for next. A clip that is exact of
-    /// a scene is so of any scene that differs at this spot alone. No memory.
+    /// Touches a spot: what depends on its container and its clip is recomputed when it is next asked for. A clip that is
+    /// exact for a scene is then exact for any scene that differs at this spot only. Doesn't allocate.
     pub fn touch(&mut self, of: Container)
         requires { IsAdded self.old.touches of }
         ensures touched { self.new ≡ record self.old { touches = touched of (self.old.touches) } }
@@ -98,8 +98,8 @@ impl Clips {
         self.touches.touch(of);
     }
 
-    /// The pair of a number, None exactly where none is held. No clip was computed, and no spot touched, at a number of touches that
-    /// didn't come yet.
+    /// Returns the pair with this number, `None` exactly when there is none. No touch number that is stored, of a clip or of
+    /// a spot, exceeds the current count (`numbered`).
     pub fn pair(&self, number: u64) -> Option<Pair>
         ensures value { result ≡ pair_at self.now number }
         ensures numbered { AreNumbered self.now }
@@ -107,8 +107,8 @@ impl Clips {
         self.pairs.get(number)
     }
 
-    /// Holds a pair of a root and a spot under a number that no pair has. Its clip isn't computed yet. Refused only where there
-    /// is no memory, and then nothing changes.
+    /// Adds a pair of a root and a spot under a number that no pair has. Its clip isn't computed yet. Fails only if an
+    /// allocation fails, and then nothing changes.
     pub fn hold(&mut self, number: u64, root: Container, of: Container) -> Result<(), AllocError>
         requires { pair_at self.old number ≡ None }
         ensures held { OnOk result (self.new ≡ with_pair number root of self.old) }
@@ -123,7 +123,7 @@ impl Clips {
         self.pairs.insert(number, pair)
     }
 
-    /// Lets a pair go. No memory.
+    /// Removes a pair. Doesn't allocate.
     pub fn release(&mut self, number: u64)
         requires { IsHeld self.old number }
         ensures released { self.new ≡ without_pair number self.old }
@@ -132,14 +132,14 @@ impl Clips {
         self.pairs.remove(number);
     }
 
-    /// The common part of the clips strictly between the two spots of a pair, edges included, as they are now: `Whole` exactly
-    /// where no spot between clips, `Nothing` exactly where no point is common (Intersection Observer, 3.2.7).
+    /// Returns the intersection of the current clips strictly between the two spots of a pair, edges included: `Whole`
+    /// exactly when no spot between clips, `Nothing` exactly when there is no common point (Intersection Observer, 3.2.7).
     ///
-    /// Where the clip was computed, and no spot on the pair's chain was touched since, it is handed out as it is held, and
-    /// nothing changes. Else it is computed, which takes a step for each spot strictly between, and held. No memory.
+    /// If the clip was computed and no spot on the pair's chain was touched since, the stored clip is returned, and nothing
+    /// changes. Otherwise it is computed, in one step for each spot strictly between, and stored. Doesn't allocate.
     ///
-    /// Needs that the root is above the pair's spot, as `reaches` tells, and that a clip which is handed out as it is held is
-    /// exact (`exact`), which `touch` keeps so.
+    /// Requires that the root is above the pair's spot (`clip_chain::reaches`), and that a stored clip which would be reused
+    /// is exact (`exact`), which `touch` maintains.
     pub fn clip_of<G: Geometry, L: Ledger>(
         &mut self,
         geometry: &G,
@@ -167,7 +167,7 @@ impl Clips {
         self.current(geometry, number, steps)
     }
 
-    // The clip of a pair, which is computed and held where the one that is held doesn't stand.
+    // Returns the clip of a pair; computes and stores it if the stored one is out of date.
     fn current<G: Geometry, L: Ledger>(
         &mut self,
         geometry: &G,
@@ -202,7 +202,7 @@ impl Clips {
         self.pairs.get(number).unwrap()
     }
 
-    // The clip that is held of a pair, none where it doesn't stand.
+    // Returns the stored clip of a pair, `None` if it is out of date or wasn't computed.
     fn standing<G: Geometry>(&self, geometry: &G, pair: Pair) -> Option<Clip>
         requires { IsAbove (G.scene geometry.now) pair.root pair.of }
         ensures { (between : List ContainerOf) → Leads (G.scene geometry.now) pair.of between pair.root →
@@ -224,7 +224,7 @@ impl Clips {
         }
     }
 
-    // Holds the clip of a pair as it was computed now.
+    // Stores the clip just computed for a pair.
     fn store(&mut self, number: u64, pair: Pair, clip: Clip)
         requires held { IsHeld self.old number }
         requires pair { pair_of self.old number ≡ pair }

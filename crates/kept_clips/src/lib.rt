@@ -1,9 +1,9 @@
-//! Clips between targets and roots, kept from update to update (Intersection Observer, 3.2.7).
+//! A cache of the clips between targets and roots, kept from update to update (Intersection Observer, 3.2.7).
 //!
-//! What the clips strictly between a root and a target leave is computed once for each pair and handed out again until a spot
-//! on the pair's chain is touched: whoever holds clips touches each spot whose container or clip differs from what it was.
-//! Containers and clips are asked of the caller (`clip_chain::Geometry`). Rectangles are in units of 1/64 CSS pixel and in the
-//! coordinates of the top document's viewport.
+//! The intersection of the clips strictly between a root and a target is computed once for each pair and reused until a spot
+//! on the pair's chain is touched: the caller touches each spot whose container or clip changed. Containers and clips are
+//! queried from the caller (`clip_chain::Geometry`). Rectangles are in units of 1/64 CSS pixel and in the coordinates of the
+//! top document's viewport.
 #![tactic(auto)]
 
 mod between;

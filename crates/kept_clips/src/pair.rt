@@ -1,9 +1,9 @@
-//! What is held of a pair of spots.
+//! The cached state of a pair of spots.
 
 use crate::Clip;
 use element_tree::Container;
 
-/// A root, a spot that stands in it, and the clip between the two once it was computed.
+/// A root, a spot below it, and the clip between the two once it was computed.
 #[derive(Clone, Copy, Debug, PartialEq, Eq)]
 pub struct Pair {
     pub root: Container,
@@ -11,7 +11,7 @@ pub struct Pair {
     pub computed: Option<Computed>,
 }
 
-/// A clip, and how many touches there were when it was computed.
+/// A clip, and the touch count when it was computed.
 #[derive(Clone, Copy, Debug, PartialEq, Eq)]
 pub struct Computed {
     pub clip: Clip,

@@ -1,4 +1,4 @@
-//! What was seen last of each spot.
+//! The last known state of each spot.
 
 ghost use Rattle.std.specs.Prelude.{◌≡◌, ◌↔◌, ◌<◌, ℕ, [], None, Some, length, IsTrue, IsOk, OnOk, OnErr};
 ghost use Rattle.std.specs.List.{slice_index_or};
@@ -18,7 +18,7 @@ use px_units::Rect;
 use std::alloc::{AllocError, Global};
 use std::marker::Model;
 
-/// What was seen of a spot: what it stood in, what it clipped its content to, its box, and whether it was a scroll container.
+/// The state of a spot when it was looked at: its container, its clip, its box, and whether it was a scroll container.
 #[derive(Clone, Copy, Debug, PartialEq, Eq)]
 pub struct Sighting {
     pub container: Option<Container>,
@@ -57,7 +57,7 @@ impl Sighting {
     }
 }
 
-/// What was seen last of each spot, where there is room for it; nothing where it wasn't seen yet.
+/// The last known state of each spot that has a slot; nothing for one that wasn't looked at yet.
 #[derive(Drop)]
 pub struct Sightings {
     nodes: Vec<Option<Sighting>>,
@@ -73,7 +73,7 @@ impl Model for Sightings {
 }
 
 impl Sightings {
-    /// Nothing seen and no room, which takes no memory yet.
+    /// Creates an empty table without slots; allocates nothing.
     pub fn new(alloc: Global) -> Sightings
         ensures { result ≡ record { nodes = []; views = [] } }
     {
@@ -83,15 +83,15 @@ impl Sightings {
         }
     }
 
-    /// Of how many elements and of the viewports of how many documents there is room for what is seen.
+    /// Returns the number of slots for elements and for the viewports of documents.
     pub fn room(&self) -> (usize, usize)
         ensures { result ≡ (length self.now.nodes, length self.now.views) }
     {
         (self.nodes.len(), self.views.len())
     }
 
-    /// Makes room for what is seen of a spot, and of all spots of its kind that have lower numbers. What was seen stays as it is.
-    /// Refused only for want of memory, and never where there is room already; nothing changes then.
+    /// Makes slots for a spot and for all spots of its kind that have lower numbers. What was recorded is unchanged. Fails
+    /// only if an allocation fails, never if the slot already exists; nothing changes then.
     pub fn add(&mut self, of: Container) -> Result<(), AllocError>
         ensures added { OnOk result (self.new ≡ with_room of self.old) }
         ensures same { OnErr result (self.new ≡ self.old) }
@@ -105,7 +105,7 @@ impl Sightings {
         }
     }
 
-    /// What was seen of a spot last.
+    /// Returns the last known state of a spot.
     pub fn sighting(&self, of: Container) -> Option<Sighting>
         ensures { result ≡ sighting_of self.now of }
     {
@@ -125,10 +125,11 @@ impl Sightings {
         }
     }
 
-    /// Looks at a spot: where its container, clip or box differs from what was seen last, or whether it is a scroll container, or nothing was
-    /// seen of it, it is touched. What is seen now is kept.
+    /// Looks at a spot and records its current state. If its container, clip, box or being a scroll container differs from
+    /// the last known state, or there was none, the spot is touched in `clips`.
     ///
-    /// Clips that are exact of what was seen last, or of a view of it that tells of each spot by that spot alone, stay exact of it. No memory.
+    /// Clips that are exact for the last known states, or for a view of them that maps each spot by itself, stay exact.
+    /// Doesn't allocate.
     pub fn look<G: Scrolls>(&mut self, clips: &mut Clips, geometry: &G, of: Container)
         requires room { HasRoom self.old of }
         requires added { IsAdded clips.old.touches of }
@@ -153,7 +154,7 @@ impl Sightings {
         }
     }
 
-    // Whether what is seen of a spot is what was seen last.
+    // Whether the current state of a spot is the last known one.
     fn is_as_seen(&self, of: Container, now: Sighting) -> bool
         ensures { IsTrue result ↔ (sighting_of self.now of ≡ Some now) }
     {
@@ -164,7 +165,7 @@ impl Sightings {
     }
 }
 
-// Fills a list up with nothing so that there is room for this place.
+// Extends a list with empty slots up to this index.
 fn extend(sightings: &mut Vec<Option<Sighting>>, place: u32) -> Result<(), AllocError>
     ensures extended { OnOk result (sightings.new.items ≡ up_to place sightings.old.items) }
     ensures same { OnErr result (sightings.new.items ≡ sightings.old.items) }

@@ -7,7 +7,7 @@ use element_tree::Container;
 use std::alloc::{AllocError, Global};
 use std::marker::Model;
 
-// How many touches there were, and of each spot the number of its last one, 0 where it wasn't touched.
+// The touch count, and for each spot the number of its last touch, 0 if it was never touched.
 #[derive(Drop)]
 pub(crate) struct Touches {
     count: u64,
@@ -81,7 +81,7 @@ impl Touches {
     }
 }
 
-// Fills numbers up with 0 so that there is one for this place.
+// Extends a list of numbers with 0 up to this index.
 fn extend(numbers: &mut Vec<u64>, place: u32) -> Result<(), AllocError>
     ensures extended { OnOk result (numbers.new.items ≡ up_to place numbers.old.items) }
     ensures same { OnErr result (numbers.new.items ≡ numbers.old.items) }

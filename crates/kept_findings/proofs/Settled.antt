@@ -1,10 +1,10 @@
 -- What is kept of registrations once one of them is settled.
-use Rattle.std.proofs.Common.{◌≡◌, ◌∙◌, ℕ, zero, suc, ◌<◌, ◌≢◌, Bool, true, false, cond, ◌==◌, ◌&&◌, ◌||◌, not, List, [], ◌∷◌, ◌++◌, length, Option, Some, None, option_map, is_some, unwrap_or, map, ap, refl, sym, subst, inl, inr, arith}
+use Rattle.std.proofs.Common.{◌≡◌, ◌∙◌, ℕ, zero, suc, ◌<◌, ◌≢◌, Bool, true, false, cond, ◌==◌, ◌&&◌, ◌||◌, not, List, [], ◌∷◌, ◌++◌, length, Option, Some, None, option_map, is_some, unwrap_or, ap, refl, sym, subst, inl, inr, arith}
 use Rattle.std.specs.Prelude.{◌⊎◌, nat_eq, find, IfSome}
 use Rattle.std.specs.List.{AllByRecursion, IsDistinct}
 use Rattle.std.specs.Ordering.{nat_cmp}
 use Rattle.std.specs.FinMap.{FinMap, get, insert, contains_key}
-use Rattle.std.proofs.lemmas.Bool.{eqb-true, eq-eqb, false≢true}
+use Rattle.std.proofs.lemmas.Bool.{eqb-true, eq-eqb, false≢true, and_right}
 use Rattle.std.proofs.lemmas.Bool.Decides.{Decides-eqb}
 use Rattle.std.proofs.lemmas.Option.{same_Some}
 use Rattle.script_model.specs.Margins.{Margins}
@@ -12,13 +12,13 @@ use Rattle.page_model.specs.World.{Finding, Registration, IntersectionObserver, 
 use Rattle.page_model.specs.Documents.{is_number}
 use Rattle.page_model.specs.Lookups.{entry_or, change_at, no_intersection_observer, intersection_observer_at, scroll_margins_at, change_intersection_observer}
 use Rattle.page_model.specs.IntersectionObserving.{without_queue}
-use Rattle.page_model.specs.Intersections.{Settled, settled, is_news, is_same_bool}
+use Rattle.page_model.specs.Intersections.{settled, is_news, is_same_bool}
 use Rattle.clip_chain.specs.Scenes.{Scene, through}
 use Rattle.clip_chain.specs.Worlds.{element_spot, spot_of_root}
 use Rattle.intersection_observer.specs.Places.{Standing as Place, has_serial, target_in, standing_of}
 use Rattle.intersection_observer.specs.Seen.{seen_finding}
 use Rattle.intersection_observer.specs.Serials.{HasSerials, registrations_at, targets_of}
-use Rattle.intersection_observer.specs.Settling.{settled_if, settled_at, settled_standing, with_settled, is_news_of, is_news_at, is_news_for}
+use Rattle.intersection_observer.specs.Settling.{settled_at, settled_standing, with_settled, is_news_of, is_news_at, is_news_for}
 use Rattle.intersection_observer.proofs.Standing.{StandsAt, stands_at, stands-there, standing-made}
 use Rattle.intersection_observer.proofs.Subjects.{subjects_of}
 use Rattle.candidate_index.specs.declared.index.Kept.{Kept}
@@ -34,6 +34,7 @@ use Rattle.kept_findings.specs.Views.{seen_by, seen_for}
 use Rattle.kept_findings.specs.Registered.{spots_of, AreHeld, IsSettled, AreRegistered}
 use Rattle.kept_findings.proofs.Viewing.{exact_unheld, exact_roomier}
 use Rattle.intersection_observer.proofs.Settling.{KeepsSubjects, standing-changed, settled-keeps, serials-changed}
+use Rattle.intersection_observer.proofs.Only.{registrations_once}
 
 -- lists in which one entry is changed
 
@@ -104,20 +105,17 @@ alike_by (Some place) time watcher now it =
 
 -- news ---------------------------------------------------------------------------------------------------------------------------------
 
-once : ℕ → ℕ → Finding → List Registration → List Registration
-once n time now xs = map (λ (it : Settled). it.registration) (map (settled_if n time now) xs)
-
 -- of another target
-news_apart : (m n time : ℕ) (f now : Finding) (xs : List Registration) → (¬ m ≡ n) → is_news_of m f (once n time now xs) ≡ is_news_of m f xs
-unfolding once
+news_apart : (m n time : ℕ) (f now : Finding) (xs : List Registration) → (¬ m ≡ n) → is_news_of m f (registrations_once n time now xs) ≡ is_news_of m f xs
+unfolding registrations_once
 news_apart m n time f now [] apart = refl
 news_apart m n time f now (x ∷ xs) apart =
     elim (x.target == n) as (λ is. (x.target == n) ≡ is →
-    ((((cond is (settled time now x) (record { registration = x; entry = None })).registration.target == m) && is_news (cond is (settled time now x) (record { registration = x; entry = None })).registration f) || is_news_of m f (once n time now xs))
+    ((((cond is (settled time now x) (record { registration = x; entry = None })).registration.target == m) && is_news (cond is (settled time now x) (record { registration = x; entry = None })).registration f) || is_news_of m f (registrations_once n time now xs))
     ≡ (((x.target == m) && is_news x f) || is_news_of m f xs)) [
       | true ↦ λ is.
           let other : (x.target == m) ≡ false = apart_test x.target m (λ same. apart (sym same ∙ eqb-true x.target n is)) in
-          ap (λ b. (b && is_news (settled time now x).registration f) || is_news_of m f (once n time now xs)) other
+          ap (λ b. (b && is_news (settled time now x).registration f) || is_news_of m f (registrations_once n time now xs)) other
           ∙ news_apart m n time f now xs apart
           ∙ ap (λ b. (b && is_news x f) || is_news_of m f xs) (sym other)
       | false ↦ λ is. ap (λ b. ((x.target == m) && is_news x f) || b) (news_apart m n time f now xs apart)
@@ -135,20 +133,16 @@ no_news time f now x index meets =
     ap (λ b. not (b && is_same_bool (now.meets) (f.meets))) (ap (is_number (Some (now.index))) index ∙ same_number (now.index))
     ∙ ap (λ b. not b) (ap (is_same_bool (now.meets)) meets ∙ same_meets (now.meets))
 
-never : (b c : Bool) → c ≡ false → (b && c) ≡ false
-never true c e = e
-never false c e = refl
-
 -- of what was settled by the same
-own_news : (n time : ℕ) (f now : Finding) (xs : List Registration) → f.index ≡ now.index → f.meets ≡ now.meets → is_news_of n f (once n time now xs) ≡ false
-unfolding once
+own_news : (n time : ℕ) (f now : Finding) (xs : List Registration) → f.index ≡ now.index → f.meets ≡ now.meets → is_news_of n f (registrations_once n time now xs) ≡ false
+unfolding registrations_once
 own_news n time f now [] index meets = refl
 own_news n time f now (x ∷ xs) index meets =
     elim (x.target == n) as (λ is. (x.target == n) ≡ is →
-    ((((cond is (settled time now x) (record { registration = x; entry = None })).registration.target == n) && is_news (cond is (settled time now x) (record { registration = x; entry = None })).registration f) || is_news_of n f (once n time now xs))
+    ((((cond is (settled time now x) (record { registration = x; entry = None })).registration.target == n) && is_news (cond is (settled time now x) (record { registration = x; entry = None })).registration f) || is_news_of n f (registrations_once n time now xs))
     ≡ false) [
-      | true ↦ λ is. ap (λ b. b || is_news_of n f (once n time now xs)) (never (x.target == n) (is_news (settled time now x).registration f) (no_news time f now x index meets)) ∙ own_news n time f now xs index meets
-      | false ↦ λ is. ap (λ b. (b && is_news x f) || is_news_of n f (once n time now xs)) is ∙ own_news n time f now xs index meets
+      | true ↦ λ is. ap (λ b. b || is_news_of n f (registrations_once n time now xs)) (and_right (x.target == n) (is_news (settled time now x).registration f) (no_news time f now x index meets)) ∙ own_news n time f now xs index meets
+      | false ↦ λ is. ap (λ b. (b && is_news x f) || is_news_of n f (registrations_once n time now xs)) is ∙ own_news n time f now xs index meets
     ] refl
 
 -- a target is that of one serial number alone
@@ -184,7 +178,7 @@ target_there serial it place found =
 
 module _ (it : IntersectionObservers) (serials : HasSerials it) (serial time : ℕ) (now : Finding) where
   other_by : (other : ℕ) (f : Finding) → (¬ other ≡ serial) → (one two : Option Place) → standing_of serial it ≡ one → standing_of other it ≡ two → is_news_at two f it ≡ false → is_news_at two f (settled_standing one time now it) ≡ false
-  unfolding once
+  unfolding registrations_once
   other_by other f apart None two e g quiet = quiet
   other_by other f apart (Some q) None e g quiet = refl
   other_by other f apart (Some q) (Some p) e g quiet = elim (numbers_apart p.target q.target) [
@@ -208,7 +202,7 @@ module _ (it : IntersectionObservers) (serials : HasSerials it) (serial time : �
       ∙ other_by other f apart (standing_of serial it) (standing_of other it) refl refl quiet
 
   own_by : (f : Finding) → f.index ≡ now.index → f.meets ≡ now.meets → (one : Option Place) → standing_of serial it ≡ one → is_news_at one f (settled_standing one time now it) ≡ false
-  unfolding once
+  unfolding registrations_once
   own_by f index meets None e = refl
   own_by f index meets (Some p) e =
       ap (λ (x : IntersectionObserver). is_news_of p.target f (x.registrations)) (changed_here no_intersection_observer (settled_at (p.target) time now) p.watcher (it.made) (stands-there serial (it.made) p e))

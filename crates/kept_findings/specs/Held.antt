@@ -1,5 +1,5 @@
--- What is kept of registrations from update to update: what was seen last of each spot, the clips between targets and roots, and what
--- was found last.
+-- What is kept of registrations from update to update: what was last seen of each spot, the clips between targets and roots, and
+-- the last findings.
 use Rattle.std.specs.Prelude.{◌≡◌, ℕ, [], Option, None}
 use Rattle.std.specs.Ordering.{nat_cmp}
 use Rattle.std.specs.FinMap.{FinMap, empty, insert, remove}
@@ -22,18 +22,18 @@ no_findings = record {
   kept = empty;
 }
 
--- a registration with these spots that was never computed
+-- adds a registration with these spots that was never computed
 abbrev pub with_findings : ℕ → Container → Container → HeldFindings → HeldFindings
 with_findings serial root target it = record it { clips = with_pair serial root target (it.clips); kept = insert (it.kept) serial None }
 
 abbrev pub without_findings : ℕ → HeldFindings → HeldFindings
 without_findings serial it = record it { clips = without_pair serial (it.clips); kept = remove (it.kept) serial }
 
--- a registration that counts as never computed from then on
+-- from here on a registration counts as never computed
 abbrev pub with_expired : ℕ → HeldFindings → HeldFindings
 with_expired serial it = record it { kept = insert (it.kept) serial None }
 
--- nothing but room for more spots
+-- nothing changes, except that there may be room for more spots
 pub record IsRoomier (before now : HeldFindings) : Type 0 where
   pub pairs : now.clips.pairs ≡ before.clips.pairs
   pub kept : now.kept ≡ before.kept

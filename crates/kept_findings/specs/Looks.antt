@@ -23,21 +23,21 @@ abbrev pub HasPlace : LookedAt → Container → Type 0
 HasPlace it (Element node) = node.0 < length it.nodes
 HasPlace it (Document document) = document.0 < length it.views
 
--- none was looked at, with a place for each spot that there is room for what is seen of
+-- no spot was looked at; each spot that has room in `seen` has a place
 abbrev pub no_looks : Seen → LookedAt
 no_looks seen = record { nodes = replicate (length seen.nodes) false; views = replicate (length seen.views) false }
 
--- once a spot was looked at
+-- after a spot was looked at
 abbrev pub noted : Container → LookedAt → LookedAt
 noted (Element node) it = record it { nodes = slice_set (it.nodes) (node.0) true }
 noted (Document document) it = record it { views = slice_set (it.views) document.0 true }
 
--- a spot was seen last as it is now, which is as a geometry has it
+-- a spot was last seen as it is now, and is in range
 pub record IsSeenNow (scene : Scene) (rank : Container → ℕ) (seen : Seen) (spot : Container) : Type 0 where
   pub sighting : sighting_of seen spot ≡ Some (sighting_in scene spot)
   pub in_range : IsInRange scene rank spot
 
--- so is each spot that was looked at; and each spot that there is room for has a place
+-- the same for each spot that was looked at; and each spot that has room in `seen` has a place
 pub record AreLooked (scene : Scene) (rank : Container → ℕ) (seen : Seen) (looks : LookedAt) : Type 0 where
   pub looked : (spot : Container) → IsNoted looks spot → IsSeenNow scene rank seen spot
   pub place : (spot : Container) → HasRoom seen spot → HasPlace looks spot

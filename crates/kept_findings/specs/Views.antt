@@ -7,10 +7,10 @@ use Rattle.clip_chain.specs.Scenes.{Scene, through}
 use Rattle.clip_chain.specs.Worlds.{spot_of_root}
 use Rattle.candidate_index.specs.Registrations.{place_of}
 
--- through an observer's scroll margins, which leave its root alone
+-- through an observer's scroll margins, which don't apply to its root
 abbrev pub seen_by : IntersectionObservers → List Margins → ℕ → Scene → Scene
 seen_by watchers margins watcher scene = through (spot_of_root (intersection_observer_at watchers watcher).root) (scroll_margins_at margins watcher) scene
 
--- through those of the observer at which a registration stands
+-- through those of a registration's observer
 abbrev pub seen_for : IntersectionObservers → List Margins → ℕ → Scene → Scene
 seen_for watchers margins serial scene = seen_by watchers margins (place_of watchers serial).watcher scene

@@ -1,4 +1,4 @@
--- The chains of registrations: where they lead, and that what is seen along them is as it is.
+-- The chains of registrations: where they lead, and that the spots on them were last seen as they are.
 use Rattle.std.specs.Prelude.{◌≡◌, ℕ, List, [], ◌∷◌, ◌++◌}
 use Rattle.std.specs.List.{AllByRecursion}
 use Rattle.script_model.specs.Margins.{Margins}
@@ -16,7 +16,7 @@ use Rattle.candidate_index.specs.declared.scene.Standing.TheVariants.{Apart, NoB
 use Rattle.candidate_index.specs.Findings.{finding_over}
 use Rattle.candidate_index.specs.Registrations.{observer_of, target_of, standing_for, IfChained}
 
--- each spot of a chain, both ends included
+-- a property of each spot of a chain, both ends included
 abbrev pub EachAlong : (Container → Type 0) → Scene → Container → Container → Type 0
 EachAlong P scene of root = (between : List Container) → Leads scene of between root → AllByRecursion P (of ∷ (between ++ root ∷ []))
 
@@ -24,25 +24,25 @@ EachAlong P scene of root = (between : List Container) → Leads scene of betwee
 abbrev pub IsNot : Container → Container → Type 0
 IsNot spot other = ¬ other ≡ spot
 
--- where a chain leads from a target to a root, by how it stands to it
+-- where a target is chained to a root, a chain leads from the target to the root
 abbrev pub AreChained : Scene → (Root → ℕ → Standing) → Type 0
 AreChained scene standings = (root : Root) (target : ℕ) → IfChained (standings root target) (IsAbove scene (spot_of_root root) (element_spot target))
 
--- along the chain of a registration, if it leads to the root
+-- a property of each spot on the chain of a registration, if it leads to the root
 abbrev pub AlongChain : (Container → Type 0) → Scene → (Root → ℕ → Standing) → IntersectionObservers → ℕ → Type 0
 AlongChain P scene standings it serial =
     IfChained (standing_for standings it serial)
     (EachAlong P scene (element_spot (target_of it serial)) (spot_of_root (observer_of it serial).root))
 
--- there is room for what is seen of each spot of it, and each may be touched
+-- each spot on it may be looked at
 abbrev pub MayBeWalked : Scene → (Root → ℕ → Standing) → IntersectionObservers → Seen → HeldClips → ℕ → Type 0
 MayBeWalked scene standings it seen clips serial = AlongChain (MayBeSeen seen clips) scene standings it serial
 
--- each spot of it was seen last as it is now
+-- what was last seen of each spot on it agrees with the spot as it is now
 abbrev pub IsWalked : Scene → (Root → ℕ → Standing) → IntersectionObservers → Seen → ℕ → Type 0
 IsWalked scene standings it seen serial = AlongChain (AgreesAt (scene_seen seen) scene) scene standings it serial
 
--- the spots strictly between, where a chain leads from a target to a root
+-- the spots strictly between if a chain leads from a target to a root, else none
 
 abbrev pub between_by : (s : Standing) (scene : Scene) (root target : Container) → IfChained s (IsAbove scene root target) → List Container
 between_by Apart scene root target above = []
@@ -55,7 +55,7 @@ chain_between scene standings chained root target = between_by (standings root t
 abbrev pub spots_between : (scene : Scene) (standings : Root → ℕ → Standing) → AreChained scene standings → IntersectionObservers → ℕ → List Container
 spots_between scene standings chained it serial = chain_between scene standings chained (observer_of it serial).root (target_of it serial)
 
--- what an observer with these scroll margins finds of a target, as it is told
+-- what an observer with these scroll margins finds of a target, after `telling` has translated it
 abbrev pub found_in : (scene : Scene) (standings : Root → ℕ → Standing) → AreChained scene standings → (Root → ℕ → Finding → Finding) → Margins → IntersectionObserver → ℕ → Finding
 found_in scene standings chained telling margins observer target =
     telling

@@ -1,4 +1,4 @@
-//! The findings that are kept.
+//! The cached findings.
 
 ghost use Rattle.std.specs.Prelude.{◌≡◌, ◌<◌, ◌+◌, ℕ, List, None, length, filter, Some, IsSome, IsTrue, IfOk, OnOk, OnErr};
 ghost use Rattle.std.specs.List.{All};
@@ -37,10 +37,11 @@ use std::sync::ledger::Ledger;
 use step_count::Steps;
 use thresholds::Margins;
 
-/// What was seen last of each spot, the clips that are kept, and what was found of registrations last and from what.
+/// The last known state of each spot, the cached clips, and the last finding of each registration with its inputs.
 ///
-/// A clip that is handed out as it is held is exact of what was seen last, as its registration's observer sees it through its scroll
-/// margins, at every moment (`AreHeld`): whatever was computed stays so until a spot on its chain is seen otherwise, and then it is touched.
+/// A stored clip that would be reused is always exact for the last known states, as its registration's observer sees them
+/// through its scroll margins (`AreHeld`): it stays exact until a spot on its chain is found to have changed, and that spot
+/// is then touched.
 #[derive(Drop)]
 pub struct KeptFindings {
     alloc: Global,
@@ -78,7 +79,7 @@ fn margins_at(scroll_margins: &[Margins], watcher: WatcherId) -> Margins
 }
 
 impl KeptFindings {
-    /// Nothing is kept; it takes no memory yet.
+    /// Creates an empty cache; allocates nothing.
     pub fn new(alloc: Global) -> KeptFindings
         ensures empty { result ≡ no_findings }
         ensures registered { (watchers : IntersectionObservers) (margins : List ScrollMargins) → ((serial : ℕ) → standing_of serial watchers ≡ None) → AreRegistered watchers margins result }
@@ -91,20 +92,20 @@ impl KeptFindings {
         }
     }
 
-    /// The clips that are kept.
+    /// Returns the cached clips.
     pub fn clips(&self) -> &Clips
         ensures value { result.now ≡ self.now.clips }
         ensures numbered { AreNumbered self.now.clips }
     {
-        // It tells that touches are numbered.
+        // Yields that touches are numbered.
         self.clips.pair(0);
         &self.clips
     }
 
-    /// Nothing was looked at yet, as an update begins.
+    /// Starts an update: returns a `Looks` in which no spot was looked at yet.
     ///
     /// # Errors
-    /// Where there is no memory to note what is looked at.
+    /// If an allocation fails.
     pub fn looks(&self) -> Result<Looks, AllocError>
         ensures none { IfOk result (λ looks. looks ≡ no_looks self.now.seen) }
         ensures known { IfOk result (λ looks. (scene : SceneOf) (rank : ContainerOf → ℕ) → AreLooked scene rank self.now.seen looks) }
@@ -112,8 +113,8 @@ impl KeptFindings {
         Looks::new(self.alloc, &self.seen)
     }
 
-    /// Makes room for what is seen of a spot. Where memory is refused there may be room for more all the same; nothing else changes in
-    /// either case.
+    /// Makes room for the state of a spot. If an allocation fails, some of the room may have been made; nothing else changes
+    /// in either case.
     pub fn add(&mut self, of: Container) -> Result<(), AllocError>
         ensures roomier { IsRoomier self.old self.new }
         ensures room { OnOk result (MayBeSeen self.new.seen self.new.clips of) }
@@ -122,10 +123,11 @@ impl KeptFindings {
         self.clips.add(of)
     }
 
-    /// Keeps a pair for a registration of which nothing is kept, by the spots of its root and its target. It counts as never computed.
+    /// Adds a registration that wasn't added, with a pair of the spots of its root and its target. It counts as never
+    /// computed.
     ///
     /// # Errors
-    /// Where there is no memory; nothing is changed then.
+    /// If an allocation fails; nothing is changed then.
     pub fn register(
         &mut self,
         registration: RegistrationId,
@@ -148,7 +150,7 @@ impl KeptFindings {
         Ok(())
     }
 
-    /// Forgets a registration whose pair is kept. No memory.
+    /// Removes a registration that was added. Doesn't allocate.
     pub fn forget(&mut self, registration: RegistrationId)
         requires { IsSome (pair_at self.old.clips registration.0) }
         ensures { self.new ≡ without_findings registration.0 self.old }
@@ -157,11 +159,12 @@ impl KeptFindings {
         self.index.forget(registration);
     }
 
-    /// The registrations of an observer that are stale, in order, once each spot of their chains was seen (`Index::stale_registrations`), as
-    /// the observer sees the scene through its scroll margins. Clips that don't stand any more are computed.
+    /// Returns the stale registrations of an observer, in order, as the observer sees the scene through its scroll margins
+    /// (`Index::stale_registrations`). Requires that each spot of their chains was looked at. Clips that are out of date are
+    /// recomputed.
     ///
     /// # Errors
-    /// Where there is no memory for the list.
+    /// If the list can't be allocated.
     pub fn stale_registrations<S: Scene + Scrolls, L: Ledger>(
         &mut self,
         scene: &S,
@@ -193,7 +196,7 @@ impl KeptFindings {
         ensures same_steps { OnErr result (steps.new ≡ steps.old) }
         ensures known { AreLooked (S.scene scene.now) (S.rank scene.now) self.new.seen looks.now }
     {
-        // It tells that they stand.
+        // Yields that they exist.
         watchers.registrations(watcher);
         let seen = SeenScene {
             scene,
@@ -209,8 +212,9 @@ impl KeptFindings {
             .stale_registrations(&view, &mut self.clips, watchers, watcher, steps)
     }
 
-    /// Finds what there is to find of a registration's target, once each spot of its chain was seen, and keeps it (`Index::recompute`), as its
-    /// observer sees the scene through its scroll margins. It takes one step, and those of its clip where that doesn't stand. No memory.
+    /// Computes and stores the finding of a registration's target, as its observer sees the scene through its scroll margins
+    /// (`Index::recompute`). Requires that each spot of its chain was looked at. It takes one step, and those of its clip if
+    /// that is out of date. Doesn't allocate.
     pub fn recompute<S: Scene + Scrolls, L: Ledger>(
         &mut self,
         scene: &S,
@@ -255,7 +259,7 @@ impl KeptFindings {
             .recompute(&view, &mut self.clips, watchers, registration, steps)
     }
 
-    /// Lets a registration count as never computed. No memory.
+    /// Discards the finding of a registration, which then counts as never computed. Doesn't allocate.
     pub fn expire(&mut self, registration: RegistrationId)
         requires { IsTrue (contains_key self.old.kept registration.0) }
         ensures { self.new ≡ with_expired registration.0 self.old }

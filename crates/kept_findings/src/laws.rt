@@ -1,5 +1,5 @@
-//! What becomes of registrations that are kept, and of the steps that their clips take: each law is the clause of a function that does
-//! nothing.
+//! The cached registrations through commands and updates, and the steps that their clips take: each law is stated as the
+//! contract of an empty function.
 
 ghost use Rattle.std.specs.Prelude.{◌≡◌, ◌<◌, ◌≤◌, ◌+◌, ℕ, Bool, List, [], Option, Some, false, length, sum_by};
 ghost use Rattle.std.specs.List.{AllByRecursion};
@@ -24,8 +24,9 @@ ghost use Rattle.kept_findings.specs.Rooms.{HaveRoom};
 ghost use Rattle.kept_findings.specs.Registered.{AreRegistered};
 ghost use Rattle.kept_findings.specs.Stale.{chosen, IsQuiet};
 
-/// What is kept is kept of the registrations that stand, and settled, through what commands do to intersection observers: one more
-/// observer with its scroll margins, a registration made or taken out whose pair is kept or let go with it, a queue that is handed out, room for more spots.
+/// The cache holds exactly the existing registrations, and their findings are settled, through all that commands do to
+/// intersection observers: creating an observer with its scroll margins, creating or removing a registration with its pair,
+/// taking a queue, making room for more spots.
 pub fn registrations_stay_registered()
     ensures made { (it : IntersectionObservers) (document : ℕ) (handler : Option ℕ) (root : Root) (margins : Margins) (thresholds : List ℕ) (scroll_margins now : List Margins) (kept : HeldFindings) →
         ((watcher : ℕ) → watcher < length it.made → scroll_margins_at now watcher ≡ scroll_margins_at scroll_margins watcher) →
@@ -38,14 +39,14 @@ pub fn registrations_stay_registered()
     ensures taken { (it : IntersectionObservers) (scroll_margins : List Margins) (watcher : ℕ) (kept : HeldFindings) → AreRegistered it scroll_margins kept → AreRegistered (without_queue watcher it) scroll_margins kept }
 {}
 
-/// Where what is found of the others is no news, an observer is settled by those alone that are chosen.
+/// If the findings of all other registrations are no news, settling the chosen ones settles the observer.
 pub fn settling_the_stale_ones_settles_all()
     ensures { (test : ℕ → Bool) (time : ℕ) (find : ℕ → ModelFinding) (watcher : ℕ) (registrations : List Registration) (it : IntersectionObservers) → HasSerials it →
         AllByRecursion (IsQuiet test find watcher it) registrations → each_settled time find (chosen test registrations) it ≡ each_settled time find registrations it }
 {}
 
-/// The clips of several registrations that are asked for one after the other take no more steps than each alone would, and one that is
-/// asked for again takes none, unless as many touches were made as are counted.
+/// Requesting the clips of several registrations one after the other takes no more steps than each alone would, and
+/// requesting one again takes none, unless the touch count is at its maximum.
 pub fn clips_that_are_asked_for_take_steps_once()
     ensures together { (scene : SceneOf) (standings : Root → ℕ → StandingOf) (it : IntersectionObservers) (between : ℕ → List ContainerOf) (serials : List ℕ) (clips : HeldClips) →
         all_steps scene standings it between serials clips ≤ sum_by (λ serial. steps_for scene standings it between serial clips) serials }
@@ -55,8 +56,8 @@ pub fn clips_that_are_asked_for_take_steps_once()
         clips.touches.count < last_number → steps_for scene standings it between serial (asked_for scene standings it between serial clips) ≡ 0 }
 {}
 
-/// Room for what is seen of elements and documents stays through all calls, and one more element or document has room once its spot was
-/// added.
+/// Room for the states of elements and documents is kept by all calls, and adding a spot makes room for one more element or
+/// document.
 pub fn room_stays()
     ensures none { (it : HeldFindings) → HaveRoom 0 0 it }
     ensures roomier { (elements documents : ℕ) (before now : HeldFindings) → IsRoomier before now → HaveRoom elements documents before → HaveRoom elements documents now }

@@ -1,8 +1,10 @@
-//! What is kept of the registrations of intersection observers from update to update (Intersection Observer, 3.2.7 and 3.2.10): what
-//! was seen last of each spot, the clips between targets and roots, and what was found of each registration and from what.
+//! What is cached for the registrations of intersection observers from update to update (Intersection Observer, 3.2.7 and
+//! 3.2.10): the last known state of each spot, the clips between targets and roots, and the finding of each registration with
+//! its inputs.
 //!
-//! How targets stand to roots, containers, clips and boxes are asked of the caller (`candidate_index::Scene`). Rectangles are in units
-//! of 1/64 CSS pixel and in the coordinates of the top document's viewport.
+//! Containers, clips and boxes, and the relations of targets to roots, are queried from the caller
+//! (`candidate_index::Scene`). Rectangles are in units of 1/64 CSS pixel and in the coordinates of the top document's
+//! viewport.
 #![tactic(auto)]
 
 mod findings;

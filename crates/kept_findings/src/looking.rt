@@ -1,4 +1,4 @@
-//! Chains that are looked at, each spot once in an update.
+//! Looking at chains, each spot once in an update.
 
 ghost use Rattle.std.specs.Prelude.{◌≡◌, ◌⊎◌, ◌<◌, List, None, Some, length, IfSome};
 ghost use Rattle.std.specs.List.{All};
@@ -20,7 +20,7 @@ use element_tree::Container;
 use intersection_observer::{RegistrationId, WatcherId, Watchers};
 
 impl KeptFindings {
-    // Looks at a spot, unless it was looked at.
+    // Looks at a spot, unless that was already done in this update.
     fn look_at<S: Scene + Scrolls>(&mut self, scene: &S, looks: &mut Looks, of: Container)
         requires room { MayBeSeen self.old.seen self.old.clips of }
         requires known { AreLooked (S.scene scene.now) (S.rank scene.now) self.old.seen looks.old }
@@ -37,7 +37,7 @@ impl KeptFindings {
         }
     }
 
-    // The container that a spot of a chain stands in, none where that is the root.
+    // Returns the container of a spot of a chain, `None` if that is the root.
     fn container_seen<S: Scene>(
         &self,
         scene: &S,
@@ -113,11 +113,11 @@ impl KeptFindings {
         self.look_along(scene, looks, spot_of_root(root), Container::Element(target));
     }
 
-    /// Looks at each spot on the chains of an observer's registrations that wasn't looked at yet, both ends included: it is touched where
-    /// its container, clip or box differs from what was seen last, or whether it is a scroll container, or nothing was seen of it, and what is
-    /// seen now is kept. No memory.
+    /// Looks at each spot on the chains of an observer's registrations that wasn't looked at yet, both ends included, and
+    /// records its current state. It is touched if its container, clip, box or being a scroll container differs from the last
+    /// known state, or there was none. Doesn't allocate.
     ///
-    /// A chain is walked by what was seen of its spots, so that a container is asked for once for each spot.
+    /// A chain is walked by the recorded states of its spots, so that the container of each spot is queried once.
     pub fn look<S: Scene + Scrolls>(
         &mut self,
         scene: &S,

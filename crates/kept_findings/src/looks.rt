@@ -9,7 +9,7 @@ use kept_clips::Sightings;
 use std::alloc::{AllocError, Global};
 use std::marker::Model;
 
-/// Which spots were looked at in an update, so that none is looked at twice: what was seen of it then is as it is until the update ends.
+/// The spots looked at in an update, so that none is looked at twice: its recorded state is current until the update ends.
 #[derive(Drop)]
 pub struct Looks {
     nodes: Vec<bool>,

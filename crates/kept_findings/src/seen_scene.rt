@@ -1,4 +1,4 @@
-//! A scene by what was seen of it.
+//! A scene answered from recorded states.
 
 ghost use Rattle.std.specs.Prelude.{◌≡◌, IfSome, Some};
 ghost use Rattle.kept_clips.specs.Seen.{sighting_in};
@@ -15,7 +15,8 @@ use intersection_observer::Root;
 use kept_clips::{Sighting, Sightings};
 use px_units::Rect;
 
-// A scene of which what was looked at is told by what was seen, so that nothing is asked for twice that takes a way up the page.
+// A scene that answers from the recorded state for each spot that was looked at, so that no query that climbs the page is
+// repeated.
 #[derive(Drop)]
 pub(crate) struct SeenScene<'a, S: Scene> {
     pub(crate) scene: &'a S,
@@ -25,7 +26,7 @@ pub(crate) struct SeenScene<'a, S: Scene> {
 }
 
 impl<S: Scene> SeenScene<'_, S> {
-    // What was seen of a spot, if it was looked at.
+    // Returns the recorded state of a spot, if it was looked at.
     fn sighting(&self, of: Container) -> Option<Sighting>
         ensures value { IfSome result (λ it. it ≡ sighting_in (S.scene self.now.scene.now) of) }
         ensures in_range { IfSome result (λ it. IsInRange (S.scene self.now.scene.now) (S.rank self.now.scene.now) of) }

@@ -1,4 +1,4 @@
-//! What is found, told and settled.
+//! Findings mapped to document coordinates, and settled.
 
 ghost use Rattle.std.specs.Prelude.{◌≡◌, ◌+◌, ◌<◌, ℕ, List, true, false, Some, None, length, IfOk, OnOk, OnErr};
 ghost use Rattle.std.specs.FinMap.{insert};
@@ -30,19 +30,19 @@ use std::sync::ledger::Ledger;
 use step_count::Steps;
 use thresholds::Margins;
 
-/// A scene that tells what is found over it as an entry does (Intersection Observer, 3.2.10): the target's box and what is seen of it in
-/// the coordinates of the target's document, the root rectangle in those of the root's.
+/// A scene that maps a finding to the coordinates of an entry (Intersection Observer, 3.2.10): the target's box and its
+/// visible part in those of the target's document, the root rectangle in those of the root's.
 pub trait Tells: Scene + Scrolls {
     ghost use Rattle.std.specs.Prelude.{ℕ};
     ghost use Rattle.page_model.specs.World.{Root as ModelRoot, Finding as ModelFinding};
 
-    /// What is found of a target, told by its root.
+    /// The finding of a target, in the coordinates of an entry.
     ghost telling: { Self → ModelRoot → ℕ → ModelFinding → ModelFinding };
 
-    /// How far the rectangles of what is told reach at most.
+    /// A bound on the rectangles of a mapped finding.
     ghost reaches: { ModelFinding → Type 0 };
 
-    /// Tells what was found of a target. Which threshold it comes to, and whether root and target meet, is no matter of coordinates.
+    /// Maps a finding of a target to the coordinates of an entry. `index` and `meets` are unchanged.
     fn told(&self, root: Root, target: NodeId, found: Finding) -> Finding
         requires { IsPlaced (root_bounds (Self.scene self.now) (spot_of_root (seen_root root))) (seen_finding found) }
         ensures value { seen_finding result ≡ telling self.now (seen_root root) target.0 (seen_finding found) }
@@ -63,7 +63,7 @@ fn is_queued(settled: Settled) -> bool
 }
 
 impl KeptFindings {
-    // What an observer finds of its registration now, which is kept, as it is told.
+    // Computes and stores the current finding of an observer's registration, and returns it in the coordinates of an entry.
     fn tell<S: Tells, L: Ledger>(
         &mut self,
         scene: &S,
@@ -104,11 +104,13 @@ impl KeptFindings {
         )
     }
 
-    /// Finds what there is to find of an observer's registration, once each spot of its chain was looked at, and settles it as it is told.
-    /// Returns whether an entry was queued, which is so where the finding is news. It takes the steps of `recompute`.
+    /// Computes the current finding of an observer's registration, and settles it in the coordinates of an entry. Requires
+    /// that each spot of its chain was looked at. Returns whether an entry was queued, which is so exactly when the finding
+    /// is news. It takes the steps of `recompute`.
     ///
     /// # Errors
-    /// Where there is no memory for an entry: the observers are as they were then, and the registration counts as never computed.
+    /// If the entry can't be allocated: the observers are unchanged then, and the registration counts as never
+    /// computed.
     pub fn settle<S: Tells, L: Ledger>(
         &mut self,
         scene: &S,

@@ -1,6 +1,7 @@
 -- Which nodes are due, and how many.
 use Rattle.std.proofs.Common.{◌≡◌, ◌≢◌, ◌<◌, ◌+◌, ℕ, zero, suc, Option, Some, None, Bool, true, false, nat_eq, not, ◌&&◌, ◌||◌, refl, ap, sym, subst, ◌∙◌, inl, inr, arith, eqb-true}
 use Rattle.std.proofs.lemmas.Bool.Decides.{nat_tests}
+use Rattle.std.proofs.lemmas.Bool.{and_parts, or_parts}
 use Rattle.layout_model.specs.Boxes.{Inputs}
 use Rattle.block_layout.specs.Seen.{seen_inputs}
 use Rattle.kept_layout.specs.declared.slots.Slot.{Slot}
@@ -35,21 +36,13 @@ flow_is true other same = sym same
 flow_is false true same = cc
 flow_is false false same = refl
 
-both : (a b : Bool) → (a && b) ≡ true → (a ≡ true) × (b ≡ true)
-both true b is = (refl, is)
-both false b is = cc
-
 pub inputs_are : (inputs others : Inputs) → same_inputs inputs others ≡ true → inputs ≡ others
 inputs_are inputs others same =
-    let parts = both (nat_eq inputs.width others.width && same_height inputs.height others.height) (same_flow inputs.flow others.flow) same in
-    let sizes = both (nat_eq inputs.width others.width) (same_height inputs.height others.height) parts.0 in
+    let parts = and_parts (nat_eq inputs.width others.width && same_height inputs.height others.height) (same_flow inputs.flow others.flow) same in
+    let sizes = and_parts (nat_eq inputs.width others.width) (same_height inputs.height others.height) parts.0 in
     ap (λ w. let i : Inputs = record { width = w; height = inputs.height; flow = inputs.flow } in i) (eqb-true inputs.width others.width sizes.0)
     ∙ ap (λ h. let i : Inputs = record { width = others.width; height = h; flow = inputs.flow } in i) (height_is inputs.height others.height sizes.1)
     ∙ ap (λ f. let i : Inputs = record { width = others.width; height = others.height; flow = f } in i) (flow_is inputs.flow others.flow parts.1)
-
-pub neither : (a b : Bool) → (a || b) ≡ false → (a ≡ false) × (b ≡ false)
-neither true b is = cc
-neither false b is = (refl, is)
 
 holds : (b : Bool) → not b ≡ false → b ≡ true
 holds true is = refl
@@ -62,7 +55,7 @@ held_so inputs (Some found) is = (found, refl, inputs_are (seen_inputs found.inp
 module _ (slot : Slot) (inputs : Inputs) where
   pub settled_so : is_due_at (Some inputs) slot ≡ false → IsSettled slot inputs
   settled_so is =
-      let parts = neither slot.marked (not (is_held_at inputs slot.found)) is in
+      let parts = or_parts slot.marked (not (is_held_at inputs slot.found)) is in
       let held = held_so inputs slot.found (holds (is_held_at inputs slot.found) parts.1) in
       record { unmarked = parts.0; found = held.0; held = held.1; from = held.2 }
 

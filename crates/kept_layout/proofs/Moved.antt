@@ -1,6 +1,6 @@
 -- At which nodes the calls of a tree change what layout sees.
 use Rattle.std.proofs.Common.{◌≡◌, ℕ, zero, suc, List, [], ◌∷◌, ◌++◌, length, Option, Some, None, option_map, true, false, cond, nat_eq, ◌||◌, slice_get, refl, ap, sym, ◌∙◌, inl, inr, arith}
-use Rattle.std.proofs.lemmas.Bool.{false≢true}
+use Rattle.std.proofs.lemmas.Bool.{false≢true, or_parts}
 use Rattle.std.proofs.lemmas.Bool.Decides.{nat_tests}
 use Rattle.layout_model.specs.Styles.{Style, StaticPosition}
 use Rattle.layout_model.specs.Items.{Item, Kind}
@@ -17,7 +17,6 @@ use Rattle.block_layout.proofs.Nodes.{parent_is, children_is}
 use Rattle.kept_layout.specs.Changes.{IsLike, ChangesOnly}
 use Rattle.kept_layout.proofs.Lists.{decide, apart, itself}
 use Rattle.kept_layout.proofs.Shapes.{kid_listed}
-use Rattle.kept_layout.proofs.Counts.{neither}
 
 module _ {P : Type 0} where
   -- a list with an item changed, at another place
@@ -121,7 +120,7 @@ module _ {P : Type 0} (style : P → Style) (kind : P → Kind) where
 
     pub inserted_only : (p n : ℕ) (mark : Option ℕ) → ChangesOnly (λ m. names (parent_of nodes n) m || nat_eq m p) (layout_tree style kind nodes) (layout_tree style kind (inserted p n mark nodes))
     inserted_only p n mark m other =
-        let parts = neither (names (parent_of nodes n) m) (nat_eq m p) other in
+        let parts = or_parts (names (parent_of nodes n) m) (nat_eq m p) other in
         let first = removed_only n m parts.0 in
         let kids = kids_as (layout_tree style kind nodes) (layout_tree style kind (removed n nodes)) m first in
         like_after (layout_tree style kind nodes) (layout_tree style kind (removed n nodes)) (layout_tree style kind (inserted p n mark nodes)) m first
@@ -130,7 +129,7 @@ module _ {P : Type 0} (style : P → Style) (kind : P → Kind) where
 
     pub written_only : (n : ℕ) (payload : P) → ChangesOnly (λ m. nat_eq m n || names (parent_of nodes n) m) (layout_tree style kind nodes) (layout_tree style kind (change_at (with_payload payload) n nodes))
     written_only n payload m other =
-        let parts = neither (nat_eq m n) (names (parent_of nodes n) m) other in
+        let parts = or_parts (nat_eq m n) (names (parent_of nodes n) m) other in
         like_kept nodes (change_at (with_payload payload) n nodes) m (same_apart (with_payload payload) n nodes m parts.0)
         (λ c kid. same_apart (with_payload payload) n nodes c (kid_other n m c parts.1 kid))
 

@@ -1,5 +1,5 @@
 -- What the walks use of a tree.
-use Rattle.std.proofs.Common.{◌≡◌, ◌≢◌, ◌+◌, ℕ, List, Option, Some, true, refl, ap, sym, subst, ◌∙◌, arith}
+use Rattle.std.proofs.Common.{◌≡◌, ◌≢◌, ◌+◌, ℕ, List, Option, Some, true, ap, sym, subst, ◌∙◌, arith}
 use Rattle.layout_model.specs.Styles.{Style}
 use Rattle.layout_model.specs.Items.{Kind, BlockKind, ImageKind, FrameKind}
 use Rattle.layout_model.specs.Nodes.{Node, depth_of}
@@ -13,6 +13,8 @@ use Rattle.element_tree.proofs.Levels.{kid_parent}
 use Rattle.block_layout.specs.Trees.{layout_tree}
 use Rattle.block_layout.proofs.Forests.{shallow}
 use Rattle.block_layout.proofs.Nodes.{parent_is, children_is}
+use Rattle.block_layout.proofs.Kids.{inner_some}
+use Rattle.block_layout.proofs.Reached.{once_kids}
 
 pub record IsShaped (at : ℕ → Node) : Type 0 where
   pub parents : (p c : ℕ) → has (kids_of (at p)) c ≡ true → (at c).parent ≡ Some p
@@ -25,11 +27,6 @@ kid_in BlockKind children c kid = kid
 kid_in (ImageKind width height) children c kid = cc
 kid_in FrameKind children c kid = cc
 
-once_in : (kind : Kind) (children : List ℕ) → IsOnce children → IsOnce (inner_children kind children)
-once_in BlockKind children once = once
-once_in (ImageKind width height) children once = tt
-once_in FrameKind children once = tt
-
 module _ {P : Type 0} (style : P → Style) (kind : P → Kind) {most : ℕ} {nodes : List (Knot P)} (forest : IsForest most nodes) where
   pub kid_listed : (p c : ℕ) → has (kids_of (layout_tree style kind nodes p)) c ≡ true → has (children_of nodes p) c ≡ true
   kid_listed p c kid = ap (λ xs. has xs c) (sym (children_is style kind nodes p)) ∙ kid_in ((layout_tree style kind nodes p).item.kind) ((layout_tree style kind nodes p).children) c kid
@@ -38,19 +35,14 @@ module _ {P : Type 0} (style : P → Style) (kind : P → Kind) {most : ℕ} {no
   shaped = record {
     parents = λ p c kid. parent_is style kind nodes c ∙ kid_parent forest p c (kid_listed p c kid);
     falls = λ c p up. depth_child (layout_tree style kind nodes) c p up (shallow style kind forest p);
-    once = λ p. once_in ((layout_tree style kind nodes p).item.kind) ((layout_tree style kind nodes p).children) (subst IsOnce (sym (children_is style kind nodes p)) (forest.once p));
+    once = λ p. once_kids ((layout_tree style kind nodes p).item.kind) ((layout_tree style kind nodes p).children) (subst IsOnce (sym (children_is style kind nodes p)) (forest.once p));
     listed = λ c p up. ap (λ xs. has xs c) (children_is style kind nodes p) ∙ listed_child forest c p (sym (parent_is style kind nodes c) ∙ up);
   }
-
-kids_all : (kind : Kind) (children : List ℕ) (c : ℕ) → has (inner_children kind children) c ≡ true → inner_children kind children ≡ children
-kids_all BlockKind children c kid = refl
-kids_all (ImageKind width height) children c kid = cc
-kids_all FrameKind children c kid = cc
 
 module _ {P : Type 0} (style : P → Style) (kind : P → Kind) {most : ℕ} {nodes : List (Knot P)} (forest : IsForest most nodes) (n c : ℕ)
     (kid : has (kids_of (layout_tree style kind nodes n)) c ≡ true) where
   kids_same : kids_of (layout_tree style kind nodes n) ≡ children_of nodes n
-  kids_same = kids_all ((layout_tree style kind nodes n).item.kind) ((layout_tree style kind nodes n).children) c kid ∙ children_is style kind nodes n
+  kids_same = inner_some ((layout_tree style kind nodes n).item.kind) ((layout_tree style kind nodes n).children) c kid ∙ children_is style kind nodes n
 
   -- the sibling behind a child is the next of the children
   pub next_kid : (after : Option NodeId) → after ≡ node_ids (next_of c (siblings_of nodes c)) → after ≡ node_ids (next_of c (kids_of (layout_tree style kind nodes n)))

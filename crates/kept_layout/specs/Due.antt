@@ -23,8 +23,8 @@ abbrev pub is_held_at : Inputs → Option Found → Bool
 is_held_at inputs None = false
 is_held_at inputs (Some found) = same_inputs (seen_inputs found.inputs) inputs
 
--- by the inputs that a node has, none without a box: it is due where it has a box, and nothing is held yet, or its slot is
--- marked, or what is held was computed from other inputs
+-- given the inputs of a node, none if it has no box: it is due if it has a box, and nothing is held yet, or its slot is marked,
+-- or what is held was computed from other inputs
 abbrev pub is_due_at : Option Inputs → Slot → Bool
 is_due_at None slot = false
 is_due_at (Some inputs) slot = slot.marked || not (is_held_at inputs slot.found)
@@ -36,7 +36,7 @@ abbrev pub one_if : Bool → ℕ
 one_if true = 1
 one_if false = 0
 
--- how many of the nodes with a number below this one are due
+-- the number of nodes below this number that are due
 unfoldable pub due_count : (ℕ → Option Inputs) → (ℕ → Slot) → ℕ → ℕ
 due_count inputs slot zero = 0
 due_count inputs slot (suc n) = due_count inputs slot n + one_if (is_due inputs slot n)

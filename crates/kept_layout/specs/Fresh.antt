@@ -1,4 +1,4 @@
--- What is held as it is now.
+-- Held boxes that are up to date.
 use Rattle.std.specs.Prelude.{◌≡◌, ℕ, true, false, Some, option_map, is_some}
 use Rattle.px_units.specs.Lengths.{cap}
 use Rattle.layout_model.specs.Nodes.{Node, is_in_path}
@@ -8,7 +8,7 @@ use Rattle.layout_model.specs.FlatPlaces.{height_above}
 use Rattle.block_layout.specs.Seen.{seen_inputs}
 use Rattle.kept_layout.specs.declared.slots.Slot.{Slot}
 
--- the box that a node has at these inputs is held without a mark, with the heights that are stacked above it
+-- the box that a node has with these inputs is held without a mark, with the height that is stacked above it
 pub record IsFresh (at : ℕ → Node) (slot : ℕ → Slot) (n : ℕ) (inputs : Inputs) : Type 0 where
   pub unmarked : (slot n).marked ≡ false
   pub box : option_map (λ found. found.own) (slot n).found ≡ Some (box_in at inputs n)
@@ -16,8 +16,8 @@ pub record IsFresh (at : ℕ → Node) (slot : ℕ → Slot) (n : ℕ) (inputs :
   pub above : (p : ℕ) (outer : Inputs) → (at n).parent ≡ Some p → option_map (λ found. seen_inputs found.inputs) (slot p).found ≡ Some outer →
       (slot n).above ≡ cap (height_above at (child_inputs ((at p).item) outer) (at p) n)
 
--- the boxes that the place of a node rests on, its own and those of its ancestors, are held as they are now in a viewport: what holds a
--- box is among them
+-- the boxes that the place of a node depends on, its own and those of its ancestors, are held as they are now in a viewport;
+-- whatever holds a box is among them
 pub record IsFreshPath (at : ℕ → Node) (view : View) (slot : ℕ → Slot) (n : ℕ) : Type 0 where
   pub boxed : is_some (inputs_in_view at view n) ≡ true
   pub path : (m : ℕ) (inputs : Inputs) → is_in_path at m n ≡ true → inputs_in_view at view m ≡ Some inputs → IsFresh at slot m inputs

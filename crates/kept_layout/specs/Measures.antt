@@ -10,12 +10,12 @@ use Rattle.positioned_layout.specs.Measured.{Measured}
 use Rattle.kept_layout.specs.declared.slots.Slot.{Slot}
 use Rattle.kept_layout.specs.declared.slots.Found.{Found}
 
--- a viewport whose lengths are none above the largest length
+-- a viewport whose width and height don't exceed the largest length
 pub record IsSized (view : View) : Type 0 where
   pub width : view.width ≤ 2147483647
   pub height : view.height ≤ 2147483647
 
--- by its parent: a root element is in no block, and nothing is stacked above it
+-- given its parent: a root element needs no block around it, and nothing is stacked above it
 abbrev pub is_inside : (ℕ → Node) → Option ℕ → Bool
 is_inside at None = true
 is_inside at (Some p) = is_block ((at p).item.kind)
@@ -24,11 +24,11 @@ abbrev pub above_kept : ℕ → Option ℕ → ℕ
 above_kept above None = 0
 above_kept above (Some p) = cap above
 
--- whether a node has a box where its parent has one
+-- whether a node has a box if its parent has one
 abbrev pub takes_part : (ℕ → Node) → ℕ → Bool
 takes_part at n = not (at n).item.style.hidden && is_inside at (at n).parent
 
--- lengths are at most the largest one, as those of boxes in a viewport of such a size are
+-- lengths are capped at the largest one; those of boxes in a viewport of such a size don't exceed it
 abbrev pub measured_of : Inputs → Box → ℕ → Bool → Measured
 measured_of inputs box above clips = record {
   width = cap inputs.width;
@@ -46,7 +46,7 @@ measured_of inputs box above clips = record {
 abbrev pub measured_found : ℕ → Bool → Found → Measured
 measured_found above clips found = measured_of (seen_inputs found.inputs) found.own above clips
 
--- what is measured of a node that takes part, and nothing of another one
+-- the measures of a node that takes part, none of another one
 abbrev pub measured_in : (ℕ → Node) → (ℕ → Slot) → ℕ → Option Measured
 measured_in at slot n =
     cond (takes_part at n) (option_map (measured_found (above_kept (slot n).above (at n).parent) (clips (at n))) (slot n).found) None

@@ -1,4 +1,4 @@
--- The size of a box that is held; of its content box where device pixels are counted from that.
+-- The size of a held box. Device pixels are counted from the content box, so its size is taken for them.
 use Rattle.std.specs.Prelude.{ℕ, Option, Some, None}
 use Rattle.px_units.specs.declared.BoxKind.{BoxKind}
 use Rattle.px_units.specs.declared.BoxKind.TheVariants.{Content, Border, Device}

@@ -6,11 +6,11 @@ use Rattle.kept_layout.specs.declared.slots.Slot.{Slot}
 abbrev pub no_slot : Slot
 no_slot = record { marked = false; above = 0; found = None }
 
--- what is kept for a node: nothing where no slot was made for it
+-- what is kept for a node, an empty slot if none was made for it
 abbrev pub slot_in : List Slot → ℕ → Slot
 slot_in slots n = unwrap_or (slice_get slots n) no_slot
 
--- the slots up to that of a node, with empty ones for those that weren't there
+-- the slots extended by empty ones up to that of a node
 abbrev pub with_slot : ℕ → List Slot → List Slot
 with_slot n slots = slots ++ replicate (suc n - length slots) no_slot
 
@@ -18,7 +18,7 @@ with_slot n slots = slots ++ replicate (suc n - length slots) no_slot
 abbrev pub held_in : List Slot → ℕ → Option Box
 held_in slots n = option_map (λ found. found.own) (slot_in slots n).found
 
--- a slot that was marked where this is so
+-- a slot, marked if this is true
 abbrev pub marked_if : Bool → Slot → Slot
 marked_if true slot = record slot { marked = true }
 marked_if false slot = slot

@@ -1,5 +1,5 @@
--- What the walks that compute the boxes in a node do: one goes down what is in flow, and the other goes to each box out of flow, by
--- preorder, and begins the first one there.
+-- What the two walks do that compute the boxes in a node: one goes down along what is in flow; the other goes to each box out of
+-- flow, in tree order, and starts the first one there.
 use Rattle.std.specs.Prelude.{◌≡◌, ◌+◌, ◌≤◌, ℕ, Bool, true, false, Option, Some, IfSome, find}
 use Rattle.layout_model.specs.Nodes.{Node, path_of, is_in_path, is_positioned, held_by}
 use Rattle.layout_model.specs.Boxes.{Inputs, child_inputs, inputs_held, inputs_by, inputs_at, inputs_in}
@@ -10,29 +10,29 @@ use Rattle.kept_layout.specs.declared.walk.Outside.{Outside}
 use Rattle.kept_layout.specs.Due.{due_count}
 use Rattle.kept_layout.specs.Sound.{IsShownIn, IsCounted, IsRight, HasSlots}
 
--- something is held that was computed from these inputs, without a mark
+-- the slot has no mark and holds a box that was computed from these inputs
 pub record IsSettled (slot : Slot) (inputs : Inputs) : Type 0 where
   pub unmarked : slot.marked ≡ false
   pub found : Found
   pub held : slot.found ≡ Some found
   pub from : seen_inputs found.inputs ≡ inputs
 
--- in a node's own slot and those of the nodes in it, and in no other
+-- only the slots of a node and of the nodes in it may change
 abbrev pub IsFramed : (ℕ → Node) → ℕ → (ℕ → Slot) → (ℕ → Slot) → Type 0
 IsFramed at n old new = (m : ℕ) → is_in_path at n m ≡ false → new m ≡ old m
 
--- what is so of slots at every step of both walks: where a child that counts is marked, so is its parent, and what is held without a
--- mark is right. A child out of flow may be marked though its parent isn't: the second walk comes to it
+-- what holds for the slots at every step of both walks: if a counted child is marked, so is its parent, and what is held without
+-- a mark is right. A child out of flow may be marked though its parent isn't, since the second walk goes to it
 pub record IsSoundInFlow (at : ℕ → Node) (slot : ℕ → Slot) : Type 0 where
   pub marks : (p c : ℕ) → IsCounted at p c → (slot c).marked ≡ true → (slot p).marked ≡ true
   pub right : (n : ℕ) (found : Found) → (slot n).marked ≡ false → (slot n).found ≡ Some found → IsRight at slot n found
 
--- in a node, what is in flow wants the inputs that its parent hands down
+-- within a node, each counted child is to have the inputs that its parent passes down
 abbrev pub GoesInFlow : (ℕ → Node) → ℕ → (ℕ → Option Inputs) → Type 0
 GoesInFlow at n wanted = (p c : ℕ) (inputs : Inputs) → is_in_path at n p ≡ true → IsCounted at p c → wanted p ≡ Some inputs →
     wanted c ≡ Some (child_inputs (at p).item inputs)
 
--- where a node has a box, so have its displayed children if it is a block
+-- if a node that is a block has a box, so have its displayed children
 abbrev pub HaveBoxes : (ℕ → Node) → (ℕ → Bool) → Type 0
 HaveBoxes at boxed = (p c : ℕ) → IsShownIn at p c → boxed p ≡ true → boxed c ≡ true
 
@@ -40,8 +40,8 @@ HaveBoxes at boxed = (p c : ℕ) → IsShownIn at p c → boxed p ≡ true → b
 abbrev pub KeepsUnboxed : (ℕ → Node) → ℕ → (ℕ → Slot) → (ℕ → Slot) → Type 0
 KeepsUnboxed at n old new = (boxed : ℕ → Bool) → HaveBoxes at boxed → boxed n ≡ true → (m : ℕ) → boxed m ≡ false → new m ≡ old m
 
--- the boxes of a node with these inputs and in flow in it are computed where they are due, where there are so many slots; `before` and
--- `after` are the numbers of steps
+-- the box of a node with these inputs, and those in flow in it, are computed if they are due, provided that `count` slots are
+-- enough for them; `before` and `after` are the numbers of steps
 pub record IsRefreshed (at : ℕ → Node) (n : ℕ) (inputs : Inputs) (count : ℕ) (old new : ℕ → Slot) (before after : ℕ) : Type 0 where
   pub settled : HasSlots at n count → IsSettled (new n) inputs
   pub above : HasSlots at n count → (new n).above ≡ (old n).above
@@ -55,7 +55,8 @@ pub record IsRefreshed (at : ℕ → Node) (n : ℕ) (inputs : Inputs) (count : 
 abbrev pub inputs_outside : (ℕ → Node) → Inputs → ℕ → Inputs
 inputs_outside at viewport n = inputs_by at viewport (inputs_at at viewport) false (held_by (find (λ a. is_positioned (at a)) (path_of at n)))
 
--- what the second walk brings to a node whose box is held: the inputs of absolute boxes whose parent it is, and those of fixed ones
+-- what the second walk passes to a node whose box is held: the inputs of absolute boxes whose parent it is, and those of fixed
+-- ones
 pub record IsOutsideOf (at : ℕ → Node) (root : ℕ) (viewport : Inputs) (n : ℕ) (outside : Outside) (slot : ℕ → Slot) : Type 0 where
   pub inputs : Inputs
   pub boxed : inputs_in at root viewport n ≡ Some inputs
@@ -72,14 +73,15 @@ pub record IsChildSettled (at : ℕ → Node) (root : ℕ) (viewport : Inputs) (
       → after + due_count wanted new count ≤ before + due_count wanted old count
   pub sound : IsSoundInFlow at new
 
--- a child out of flow is computed with what is in flow in it; one in flow is as it was
+-- a child was entered: nothing was written outside of it or for a node without a box; and if it is displayed in a node that the
+-- second walk is at, its box is held, and no box in flow in it is due
 pub record IsEntered (at : ℕ → Node) (x : ℕ) (outside : Outside) (count : ℕ) (old new : ℕ → Slot) (before after : ℕ) : Type 0 where
   pub framed : IsFramed at x old new
   pub unboxed : KeepsUnboxed at x old new
   pub done : HasSlots at x count → IsSoundInFlow at old → (root : ℕ) (viewport : Inputs) (n : ℕ) → IsShownIn at n x → IsOutsideOf at root viewport n outside old
       → IsChildSettled at root viewport x count old new before after
 
--- what is brought on to a child: a positioned one holds absolute boxes itself
+-- what is passed on to a child: a positioned one holds absolute boxes itself
 pub record IsBroughtTo (at : ℕ → Node) (x : ℕ) (outside within : Outside) (slot : ℕ → Slot) : Type 0 where
   pub passed : is_positioned (at x) ≡ false → within.absolute ≡ outside.absolute
   pub held : is_positioned (at x) ≡ true → IfSome (slot x).found (λ found. seen_inputs within.absolute ≡ inputs_held found.own)
@@ -92,7 +94,7 @@ pub record AreSettledIn (at : ℕ → Node) (root : ℕ) (viewport : Inputs) (n 
       → after + due_count wanted new count ≤ before + due_count wanted old count
   pub sound : IsSoundInFlow at new
 
--- once the second walk was in a node, no box in it is due; the node's own is held as before
+-- after the second walk was in a node, no box in it is due; the node's own is held as before
 pub record IsRefreshedInside (at : ℕ → Node) (n : ℕ) (outside : Outside) (count : ℕ) (old new : ℕ → Slot) (before after : ℕ) : Type 0 where
   pub own : new n ≡ old n
   pub framed : IsFramed at n old new

@@ -1,4 +1,4 @@
-//! Kept boxes.
+//! The cache of boxes.
 
 ghost use Rattle.std.specs.Prelude.{◌≡◌, ◌+◌, ◌<◌, ◌≤◌, ◌||◌, ℕ, Bool, true, false, Option, Some, None, [], length, OnOk, OnErr};
 ghost use Rattle.layout_model.specs.Nodes.{is_in_path};
@@ -22,11 +22,10 @@ use std::marker::Model;
 use std::sync::ledger::Ledger;
 use step_count::Steps;
 
-/// The boxes of the elements of a tree, held from one refresh to the next. A contract sees what is kept for each node, by the
-/// nodes' numbers.
+/// The boxes of the elements of a tree, cached from one refresh to the next. Contracts see the slots by the nodes' numbers.
 ///
-/// Whoever changes the tree marks the nodes whose style, kind or children changed; for a child that leaves its parent or comes
-/// to one, that parent. What is held without a mark then stays right (`specs/Sound.antt`), and `refresh` computes the rest.
+/// Whoever changes the tree must mark the nodes whose style, kind or children changed; when a child is removed or inserted,
+/// its parent. Unmarked boxes then stay correct (`specs/Sound.antt`), and `refresh` recomputes the rest.
 #[derive(Drop)]
 pub struct Kept {
     slots: Vec<Slot>,
@@ -53,7 +52,7 @@ impl Boxes for Kept {
 }
 
 impl Kept {
-    /// Nothing kept; it takes no memory yet.
+    /// Creates an empty cache; allocates nothing.
     pub fn new(alloc: Global) -> Kept
         ensures { result ≡ [] }
     {
@@ -62,9 +61,9 @@ impl Kept {
         }
     }
 
-    /// Makes the slot of a node, which needn't be in a tree yet, and those of all lower numbers; what is kept stays as it is. No
-    /// other call on these nodes takes memory. Refused only where the slot isn't there and there is no memory for it, and then
-    /// nothing changes.
+    /// Adds the slot of a node, which needn't be in a tree yet, and those of all lower numbers; existing slots are unchanged.
+    /// No other call on these nodes allocates. Fails only if the slot doesn't exist and can't be allocated, and then nothing
+    /// changes.
     pub fn add(&mut self, node: NodeId) -> Result<(), AllocError>
         ensures added { OnOk result (self.new ≡ with_slot node.0 self.old) }
         ensures same { OnErr result (self.new ≡ self.old) }
@@ -78,16 +77,16 @@ impl Kept {
         Ok(())
     }
 
-    /// What is kept for a node.
+    /// Returns the slot of a node.
     pub fn slot_of(&self, node: NodeId) -> Slot
         ensures { result ≡ slot_in self.now node.0 }
     {
         slot_of(self.slots.as_slice(), node)
     }
 
-    /// Marks a node and its ancestors: its style, its kind or its children have changed. What is held isn't touched.
+    /// Marks a node and its ancestors, because its style, its kind or its children have changed. The boxes are unchanged.
     ///
-    /// Where what is kept fits the tree but for these nodes and for some others, it then fits but for the others.
+    /// If the cache is sound except at these nodes and some others, it is then sound except at the others (`mended`).
     pub fn mark<P: Styled>(&mut self, tree: &Tree<P>, node: NodeId)
         ensures marks { (m : ℕ) → m < length self.old →
             slot_in self.new m ≡ marked_if (is_in_path (layout_tree P.style P.kind tree.now.nodes) m node.0) (slot_in self.old m) }
@@ -100,13 +99,13 @@ impl Kept {
         mark_path(self.slots.as_mut_slice(), tree, node);
     }
 
-    /// Computes every box that is due in the tree under a root element, from the root's inputs: first what is in flow, from the root
-    /// down, then each box out of flow by preorder with what is in flow in it. Where what is kept fits the
-    /// tree, and each node in it has a slot, each box of that tree is then held as it is now, with the heights above it, and
-    /// it still fits. Nothing changes for a node without a box (CSS 2.2, 9.2.4).
+    /// Recomputes every box that is due in the tree under a root element, from the root's inputs: first what is in flow, from
+    /// the root down, then each box out of flow in preorder with what is in flow in it. If the cache is sound for the tree,
+    /// and each node in it has a slot, each box of that tree is then up to date, with the height above it, and the cache is
+    /// still sound. Nothing changes for a node without a box (CSS 2.2, 9.2.4).
     ///
-    /// It takes at most one step for each node that is due, and leaves none due. It takes no memory, and calls itself once a
-    /// level that it goes down: a tree of 2,000 levels was tried, while some 5,000 may use up the stack.
+    /// It takes at most one step for each node that is due, and leaves none due. It doesn't allocate, and recurses once per
+    /// level: a tree of 2,000 levels was tested, while some 5,000 may overflow the stack.
     pub fn refresh<P: Styled, L: Ledger>(
         &mut self,
         tree: &Tree<P>,
@@ -140,7 +139,7 @@ impl Kept {
         refresh_tree(self.slots.as_mut_slice(), tree, root, inputs, steps);
     }
 
-    /// The size of the box that is held for a node, 0 by 0 where none is.
+    /// Returns the size of the box stored for a node, 0 by 0 if there is none.
     pub fn size_of(&self, node: NodeId, kind: BoxKind) -> Size
         ensures { result ≡ as_size (size_held kind (held_in self.now node.0)) }
     {

@@ -1,4 +1,4 @@
-//! That what is kept stays right where a tree changes elsewhere, and which nodes a change of a tree is at.
+//! The cache stays sound when a tree changes elsewhere, and which nodes a change of a tree affects.
 
 ghost use Rattle.std.specs.Prelude.{◌≡◌, ◌==◌, ◌||◌, ◌++◌, ◌∷◌, ℕ, Bool, false, Option, None, List, [], length};
 ghost use Rattle.layout_model.specs.Nodes.{Node};
@@ -11,33 +11,33 @@ ghost use Rattle.kept_layout.specs.Sound.{IsSound, IsSoundBut};
 
 use block_layout::Styled;
 
-/// Where a tree changes at some nodes alone, what is kept fits it but for these. So marks on them mend it: a node that is
-/// shown or hidden counts as a change of its parent too, whose children are then no longer alike.
+/// If a tree changes at some nodes only, the cache is sound except at these. So marking them makes it sound: showing or
+/// hiding a node counts as a change of its parent, too.
 pub fn changes_leave_the_rest_right()
     ensures { (old new : ℕ → Node) (slot : ℕ → Slot) (changed : ℕ → Bool) → ChangesOnly changed old new → IsSound old slot →
         IsSoundBut new slot changed }
 {}
 
-/// A node without children for which nothing is held needs no mark.
+/// A node without children for which no box is stored needs no mark.
 pub fn new_nodes_need_no_mark()
     ensures { (at : ℕ → Node) (slot : ℕ → Slot) (n : ℕ) (others : ℕ → Bool) → (at n).children ≡ [] → (slot n).found ≡ None →
         IsSoundBut at slot (λ m. m == n || others m) → IsSoundBut at slot others }
 {}
 
-/// A node that is marked needs no exception: so the marks may come before the change, too.
+/// A marked node needs no exception, so the marks may also come before the change.
 pub fn marked_nodes_are_no_exception()
     ensures { (at : ℕ → Node) (slot : ℕ → Slot) (others : ℕ → Bool) →
         IsSoundBut at slot (λ n. (slot n).marked || others n) → IsSoundBut at slot others }
 {}
 
-/// What fits but for some nodes fits but for more.
+/// A cache that is sound except at some nodes is sound except at more.
 pub fn exceptions_may_be_more()
     ensures { (at : ℕ → Node) (slot : ℕ → Slot) (few more : ℕ → Bool) → ((n : ℕ) → more n ≡ false → few n ≡ false) →
         IsSoundBut at slot few → IsSoundBut at slot more }
 {}
 
-/// At which nodes a tree changes: at the parent that a node leaves, at the parent that it comes to, at a node that is added,
-/// and at a node whose payload is written and its parent.
+/// Changes of a tree affect few nodes: the old parent of a node that is removed, the new parent of one that is inserted, a
+/// node that is added, and a node whose payload is written, with its parent.
 pub fn trees_change_at_few_nodes<P: Styled>()
     ensures removed { (most : ℕ) (nodes : List (Knot P)) (n : ℕ) → IsForest most nodes →
         ChangesOnly (names (parent_of nodes n)) (layout_tree P.style P.kind nodes) (layout_tree P.style P.kind (removed n nodes)) }

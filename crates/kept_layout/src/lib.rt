@@ -1,5 +1,5 @@
-//! Boxes of block layout (CSS 2.2, 8 to 10) that are kept: each is computed once, marked where the tree changes, and computed
-//! again only where it is due. All lengths are in units of 1/64 CSS pixel.
+//! A cache of the boxes of block layout (CSS 2.2, 8 to 10): each box is computed once, marked when the tree changes, and
+//! recomputed only when it is due. All lengths are in units of 1/64 CSS pixel.
 #![tactic(auto)]
 
 mod kept;

@@ -1,4 +1,4 @@
-//! What is measured of the boxes that are kept.
+//! The measures of cached boxes.
 
 ghost use Rattle.std.specs.Prelude.{◌≡◌, ◌<◌, ◌≤◌, ℕ, true, option_map, unsigned_abs, length, IfSome};
 ghost use Rattle.px_units.specs.Lengths.{cap};
@@ -19,7 +19,7 @@ use layout_model::capped;
 use positioned_layout::{Measure, Measures};
 use px_units::BoxKind;
 
-/// The boxes that are kept for a tree, as `flat_place` and `reach` of `positioned_layout` measure them.
+/// The cached boxes of a tree, as measures for `flat_place` and `reach` of `positioned_layout`.
 #[derive(Drop)]
 pub struct KeptMeasures<'a, P: Styled> {
     tree: &'a Tree<P>,
@@ -27,8 +27,9 @@ pub struct KeptMeasures<'a, P: Styled> {
 }
 
 impl Kept {
-    /// What is measured of the boxes that are kept for a tree, for `flat_place` and `reach` of `positioned_layout`. Exact if each box in a
-    /// viewport is up to date (`refresh`); for the place of a node it is enough that its own box and those of its ancestors are. No memory.
+    /// Returns the measures of the cached boxes of a tree, for `flat_place` and `reach` of `positioned_layout`. Exact if each
+    /// box in a viewport is up to date (`refresh`); for the place of a node its own box and those of its ancestors suffice.
+    /// Doesn't allocate.
     pub fn measures<'a, P: Styled>(&'a self, tree: &'a Tree<P>) -> KeptMeasures<'a, P>
         ensures tree { result.tree.now ≡ tree.now }
         ensures kept { result.kept.now ≡ self.now }
@@ -38,7 +39,7 @@ impl Kept {
         ensures path { let at = layout_tree P.style P.kind tree.now.nodes in (view : View) → IsSized view → (n : ℕ) →
             IsFreshPath at view (slot_in self.now) n → AreMeasuresUp at view n (measured_in at (slot_in self.now)) }
     {
-        // It tells that the elements make trees.
+        // Yields that the elements form trees.
         tree.holds(NodeId(0));
         KeptMeasures { tree, kept: self }
     }
@@ -63,7 +64,7 @@ impl<P: Styled> Measures for KeptMeasures<'_, P> {
     }
 }
 
-// Whether a node has a box where its parent has one.
+// Whether a node has a box if its parent has one.
 fn takes_part<P: Styled>(tree: &Tree<P>, node: NodeId) -> bool
     ensures value { result ≡ takes_part (layout_tree P.style P.kind tree.now.nodes) node.0 }
     ensures known { result ≡ true → node.0 < length tree.now.nodes }
@@ -80,7 +81,7 @@ fn takes_part<P: Styled>(tree: &Tree<P>, node: NodeId) -> bool
     }
 }
 
-// The heights that are stacked above a node, none above a root element.
+// Returns the height stacked above a node, 0 for a root element.
 fn above<P: Styled>(tree: &Tree<P>, node: NodeId, kept: u64) -> u64
     ensures value { result ≡ above_kept kept (layout_tree P.style P.kind tree.now.nodes node.0).parent }
     ensures bound { result ≤ 2147483647 }
@@ -91,7 +92,7 @@ fn above<P: Styled>(tree: &Tree<P>, node: NodeId, kept: u64) -> u64
     }
 }
 
-// A length that is given, at most the largest one.
+// Caps a given length at the largest one.
 fn span(units: i64) -> i64
     ensures value { unsigned_abs result ≡ cap (unsigned_abs units) }
     ensures range { IsSpan result }

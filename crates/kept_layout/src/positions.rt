@@ -1,5 +1,5 @@
-//! Where a box is in its viewport (CSS 2.2, 8.1, 9.4.1 and 10.1) where nothing is scrolled, by the boxes that are kept and the heights above
-//! each.
+//! The place of a box in its viewport (CSS 2.2, 8.1, 9.4.1 and 10.1) while nothing is scrolled, from the cached boxes and the
+//! height above each.
 
 ghost use Rattle.std.specs.Prelude.{◌≡◌, ◌+◌, ◌*◌, ◌<◌, ◌≤◌, pos, ◌≤ℤ◌, neg_ℤ};
 ghost use Rattle.px_units.specs.Lengths.{cap};
@@ -21,7 +21,7 @@ use layout_model::capped;
 use positioned_layout::flat_place;
 use px_units::Point;
 
-/// How far to the right and downwards, in units of 1/64 pixel.
+/// An offset to the right and downwards, in units of 1/64 pixel.
 #[derive(Clone, Copy, Debug, PartialEq, Eq)]
 pub struct Shift {
     pub across: u64,
@@ -34,7 +34,8 @@ impl Shift {
 
 const ORIGIN: Point = Point { left: 0, top: 0 };
 
-// From the corner of the parent's border box to that of a child's, under so much height.
+// Returns the offset from the corner of the parent's border box to that of a child's, `above` being the height stacked above
+// it.
 fn below(outer: &BoxOf, above: u64, own: &BoxOf) -> Shift
     ensures across { result.across ≡ cap (outer.now.border.left + outer.now.padding.left + own.now.margin.left) }
     ensures down { result.down ≡ cap (outer.now.border.top + outer.now.padding.top + cap above + own.now.margin.top) }
@@ -47,7 +48,7 @@ fn below(outer: &BoxOf, above: u64, own: &BoxOf) -> Shift
     }
 }
 
-// From the viewport's corner to that of a root element's border box.
+// Returns the offset from the viewport's corner to that of a root element's border box.
 fn on_top(own: &BoxOf) -> Shift
     ensures across { result.across ≡ cap own.now.margin.left }
     ensures down { result.down ≡ cap own.now.margin.top }
@@ -60,9 +61,9 @@ fn on_top(own: &BoxOf) -> Shift
 }
 
 impl Kept {
-    /// From the corner of the parent's border box to where the node's own is in the flow, or would be, and for a root element from the
-    /// viewport's corner (CSS 2.2, 8.1 and 9.4.1), where nothing is scrolled. Exact as long as the node has a box, and the boxes of the
-    /// node and its ancestors are up to date (`refresh`). It reads the boxes of the node and its parent alone.
+    /// Returns the offset from the corner of the parent's border box to the node's static position, for a root element from
+    /// the viewport's corner (CSS 2.2, 8.1 and 9.4.1), while nothing is scrolled. Exact if the node has a box, and the
+    /// boxes of the node and its ancestors are up to date (`refresh`). It reads the boxes of the node and its parent alone.
     pub fn shift<P: Styled>(&self, tree: &Tree<P>, node: NodeId) -> Shift
         ensures value { let at = layout_tree P.style P.kind tree.now.nodes in (view : View) →
             IsFreshPath at view (slot_in self.now) node.0 → (result.across, result.down) ≡ offset_of at view node.0 }
@@ -84,9 +85,10 @@ impl Kept {
         }
     }
 
-    /// The place of a node's border box in its document's viewport, each scroll offset taken as 0 (CSS 2.2, 9.4 and 10; CSS Positioned
-    /// Layout 3, 2 and 3). Exact as long as the node has a box, and the boxes of the node and its ancestors are up to date (`refresh`) in a
-    /// viewport whose lengths are at most the largest one. It reads the boxes of the node and its ancestors alone.
+    /// Returns the place of a node's border box in its document's viewport, with all scroll offsets taken as 0 (CSS 2.2, 9.4
+    /// and 10; CSS Positioned Layout 3, 2 and 3). Exact if the node has a box, and the boxes of the node and its
+    /// ancestors are up to date (`refresh`) in a viewport whose lengths are at most the largest one. It reads the boxes of
+    /// the node and its ancestors alone.
     pub fn flat_place_of<P: Styled>(&self, tree: &Tree<P>, node: NodeId) -> Point
         ensures value { let at = layout_tree P.style P.kind tree.now.nodes in (view : View) → IsSized view →
             IsFreshPath at view (slot_in self.now) node.0 → result ≡ point_of (flat_place at view node.0) }

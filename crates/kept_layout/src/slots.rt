@@ -1,4 +1,4 @@
-//! What is kept for each node.
+//! The slot of each node.
 
 ghost use Rattle.std.specs.Prelude.{◌≡◌, ◌≢◌, ◌<◌, ◌≤◌, ℕ, true, length, IfSome};
 ghost use Rattle.layout_model.specs.Boxes.{margin_height, inputs_held};
@@ -12,23 +12,23 @@ use block_layout::{BoxOf, Inputs};
 use element_tree::NodeId;
 use layout_model::capped;
 
-/// A box that was computed, and what it was computed from.
+/// A computed box, and the inputs it was computed from.
 #[derive(Clone, Copy)]
 pub struct Found {
     pub own: BoxOf,
     pub inputs: Inputs,
-    /// Whether a box in it is out of flow, looked for through what is in flow.
+    /// Whether a box in it, reached through what is in flow, is out of flow.
     pub outside: bool,
 }
 
-/// What is kept for a node.
+/// What is cached for a node.
 #[derive(Clone, Copy)]
 pub struct Slot {
     /// Whether something that the box depends on may have changed since it was computed.
     pub marked: bool,
-    /// The margin box heights of the earlier siblings in flow, at most 2,147,483,647 units. It says nothing at a root element.
+    /// The margin box heights of the earlier siblings in flow, at most 2,147,483,647 units. Meaningless at a root element.
     pub above: u64,
-    /// None until a box is computed for the first time.
+    /// `None` until a box is computed for the first time.
     pub found: Option<Found>,
 }
 
@@ -73,7 +73,7 @@ fn are_same(inputs: Inputs, others: Inputs) -> bool
         && inputs.flow == others.flow
 }
 
-// Whether the box of a node with these inputs is to be computed.
+// Whether the box of a node with these inputs must be recomputed.
 pub(crate) fn is_due(slots: &[Slot], node: NodeId, inputs: Inputs) -> bool
     ensures { result ≡ is_due_at (Some (seen_inputs inputs)) (slot_in slots.now node.0) }
 {
@@ -108,7 +108,7 @@ pub(crate) fn set_above(slots: &mut [Slot], node: NodeId, above: u64)
     put(slots, node, Slot { above, ..kept });
 }
 
-// The height of the margin box that is held for a node, 0 where none is.
+// Returns the height of the margin box stored for a node, 0 if there is none.
 pub(crate) fn height_held(slots: &[Slot], node: NodeId) -> u64
     ensures value { result ≡ margin_height (box_held (slot_in slots.now) node.0) }
     ensures bound { result ≤ 20000000000 }
@@ -126,7 +126,7 @@ fn outer_height(own: &BoxOf) -> u64
     own.margin_height().unsigned_abs()
 }
 
-// Holds a box and clears the mark of its node.
+// Stores a box and clears the mark of its node.
 pub(crate) fn hold(slots: &mut [Slot], node: NodeId, found: Found)
     ensures own { node.0 < length slots.old → slot_in slots.new node.0 ≡ holding found.own found.inputs found.outside (slot_in slots.old node.0) }
     ensures others { (n : ℕ) → n ≢ node.0 → slot_in slots.new n ≡ slot_in slots.old n }
@@ -143,7 +143,7 @@ pub(crate) fn hold(slots: &mut [Slot], node: NodeId, found: Found)
     );
 }
 
-// Whether something in the box that is held for a node is out of flow.
+// Whether the slot of a node says that something in its box is out of flow.
 pub(crate) fn has_outside(slots: &[Slot], node: NodeId) -> bool
     ensures { result ≡ outside_found (slot_in slots.now node.0).found }
 {
@@ -153,8 +153,8 @@ pub(crate) fn has_outside(slots: &[Slot], node: NodeId) -> bool
     }
 }
 
-// The inputs of boxes out of flow that a node's box holds: the size of its padding box. Where no box is held, which isn't so once the
-// node's is computed, they are `or`.
+// Returns the inputs of the boxes out of flow that a node's box holds: the size of its padding box. If no box is stored,
+// which can't be once the node's is computed, returns `or`.
 pub(crate) fn inputs_held(slots: &[Slot], node: NodeId, or: Inputs) -> Inputs
     ensures { IfSome (slot_in slots.now node.0).found (λ found. seen_inputs result ≡ inputs_held found.own) }
 {

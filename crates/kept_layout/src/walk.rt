@@ -1,4 +1,4 @@
-//! The walks over a tree that mark what is kept and compute it again.
+//! The walks over a tree that mark and recompute boxes.
 
 ghost use Rattle.std.specs.Prelude.{◌≡◌, ◌≢◌, ◌+◌, ◌<◌, ◌≤◌, ℕ, Bool, true, false, Option, Some, None, ◌||◌, length};
 ghost use Rattle.px_units.specs.Lengths.{cap};
@@ -38,7 +38,7 @@ pub(crate) fn mark_path<P: Styled>(slots: &mut [Slot], tree: &Tree<P>, node: Nod
     }
 }
 
-// A sum of heights with one more, capped.
+// Adds a height to a sum of heights, capped.
 fn added(above: u64, height: u64) -> u64
     requires above { above ≤ 2147483647 }
     requires height { height ≤ 20000000000 }
@@ -58,9 +58,9 @@ fn is_in_flow<P: Styled>(tree: &Tree<P>, node: NodeId) -> bool
     }
 }
 
-// Computes the boxes of a node with these inputs and in flow in it that are due, and holds them; it enters no box out of flow, but
-// tells each child with a box what is stacked above it. The node is marked until its own box is held, so that what is held without a
-// mark is right at every step.
+// Recomputes the boxes that are due of a node with these inputs and of what is in flow in it; it enters no box out of flow,
+// but sets the height stacked above each child with a box. The node stays marked until its own box is stored, so that every
+// unmarked box is correct at every step.
 pub(crate) fn refresh_below<P: Styled, L: Ledger>(
     slots: &mut [Slot],
     tree: &Tree<P>,
@@ -104,14 +104,14 @@ pub(crate) fn refresh_below<P: Styled, L: Ledger>(
     );
 }
 
-// The inputs of boxes out of flow: the size of what holds absolute ones, and that of the screen.
+// The inputs of boxes out of flow: the size of the holder of absolute ones, and that of the screen.
 #[derive(Clone, Copy)]
 pub(crate) struct Outside {
     absolute: Inputs,
     fixed: Inputs,
 }
 
-// Computes a displayed child that is out of flow, with what is in flow in it. One in flow was computed with its parent.
+// Recomputes a displayed child that is out of flow, with what is in flow in it. One in flow was handled with its parent.
 fn refresh_moved<P: Styled, L: Ledger>(
     slots: &mut [Slot],
     tree: &Tree<P>,
@@ -129,7 +129,7 @@ fn refresh_moved<P: Styled, L: Ledger>(
     }
 }
 
-// The inputs of boxes out of flow in a child whose box is held: a positioned child holds absolute boxes itself.
+// Returns the inputs of boxes out of flow in a child whose box is stored: a positioned child holds absolute boxes itself.
 fn brought_to<P: Styled>(slots: &[Slot], tree: &Tree<P>, node: NodeId, outside: Outside) -> Outside
     requires { node.0 < length tree.now.nodes }
     ensures { IsBroughtTo (layout_tree P.style P.kind tree.now.nodes) node.0 outside result (slot_in slots.now) }
@@ -143,8 +143,8 @@ fn brought_to<P: Styled>(slots: &[Slot], tree: &Tree<P>, node: NodeId, outside: 
     }
 }
 
-// Computes the boxes out of flow in a node that are due, by preorder, each with what is in flow in it. So the box that holds one, which is
-// an ancestor's, is computed before it.
+// Recomputes the boxes out of flow in a node that are due, in preorder, each with what is in flow in it. So the holder of a
+// box, which belongs to an ancestor, is computed before it.
 pub(crate) fn refresh_inside<P: Styled, L: Ledger>(
     slots: &mut [Slot],
     tree: &Tree<P>,
@@ -170,7 +170,7 @@ pub(crate) fn refresh_inside<P: Styled, L: Ledger>(
     }
 }
 
-// The inputs of boxes out of flow that no element holds, by those of a root element.
+// Returns the inputs of boxes out of flow that no element holds, from those of a root element.
 fn out_of_flow(inputs: Inputs) -> Inputs
     ensures { seen_inputs result ≡ record (seen_inputs inputs) { flow = false } }
 {
@@ -180,7 +180,7 @@ fn out_of_flow(inputs: Inputs) -> Inputs
     }
 }
 
-// Computes the boxes that are due in the tree under a root element.
+// Recomputes the boxes that are due in the tree under a root element.
 pub(crate) fn refresh_tree<P: Styled, L: Ledger>(
     slots: &mut [Slot],
     tree: &Tree<P>,

@@ -1,15 +1,12 @@
 -- Who has a box in a tree stands in its order, where each node is listed by its parent.
-use Rattle.std.proofs.Common.{◌≡◌, ◌≤◌, ◌+◌, ℕ, zero, suc, Bool, true, false, Option, Some, None, List, [], ◌∷◌, ◌++◌, length, ◌-◌, ◌⊎◌, inl, inr, refl, sym, subst, eqb-true, arith}
+use Rattle.std.proofs.Common.{◌≡◌, ◌≤◌, ◌+◌, ℕ, zero, suc, true, Option, Some, None, List, [], ◌∷◌, ◌++◌, length, ◌-◌, ◌⊎◌, inl, inr, refl, sym, subst, eqb-true, arith}
 use Rattle.std.proofs.lemmas.List.Elements.{Contains-append_left, Contains-append_right, Contains-append_cases}
 use Rattle.std.specs.Prelude.{not, ◌&&◌, ◌==◌, flat_map, Contains}
+use Rattle.std.proofs.lemmas.Bool.{and_parts}
 use Rattle.layout_model.specs.Nodes.{Node, levels, path_above, path_up, path_of, depth_of, order_down, tree_order, IsShallow, IsListed}
 use Rattle.layout_model.specs.Boxes.{has_box_along, has_box_in, is_box_under}
 use Rattle.layout_model.specs.Clips.{is_block}
 use Rattle.layout_model.proofs.Trees.{contains_next}
-
-both_true : (a b : Bool) → (a && b) ≡ true → b ≡ true
-both_true true b is = is
-both_true false b is = cc
 
 module _ (at : ℕ → Node) where
   among_kids : (f : ℕ → List ℕ) (kids : List ℕ) (k c : ℕ) → Contains kids k → Contains (f k) c → Contains (flat_map f kids) c
@@ -68,11 +65,12 @@ module _ (at : ℕ → Node) where
     above_boxed : (n : ℕ) (path : List ℕ) (p : ℕ) (above : List ℕ) → path ≡ p ∷ above → has_box_along at root (n ∷ path) ≡ true → has_box_along at root path ≡ true
     unfolding has_box_along
     above_boxed n path p above is boxed =
-        both_true (is_block ((at p).item.kind)) (has_box_along at root path) (both_true (not ((at n).item.style.hidden)) _ (subst (λ up. not ((at n).item.style.hidden) && is_box_under at root n up (has_box_along at root path) ≡ true) is boxed))
+        (and_parts (is_block ((at p).item.kind)) (has_box_along at root path)
+        ((and_parts (not ((at n).item.style.hidden)) _ (subst (λ up. not ((at n).item.style.hidden) && is_box_under at root n up (has_box_along at root path) ≡ true) is boxed)).1)).1
 
     alone_boxed : (n : ℕ) → has_box_along at root (n ∷ []) ≡ true → n ≡ root
     unfolding has_box_along
-    alone_boxed n boxed = eqb-true n root (both_true (not ((at n).item.style.hidden)) (n == root) boxed)
+    alone_boxed n boxed = eqb-true n root ((and_parts (not ((at n).item.style.hidden)) (n == root) boxed).1)
 
     by_parent : (high n : ℕ) (found : Option ℕ) → (at n).parent ≡ found → ((p : ℕ) → length (path_up high at p) ≤ high → has_box_along at root (path_up high at p) ≡ true → Contains (order_down (length (path_up high at p)) at root) p) → length (path_above (path_up high at) found) ≤ high → has_box_along at root (n ∷ path_above (path_up high at) found) ≡ true → Contains (order_down (suc (length (path_above (path_up high at) found))) at root) n
     unfolding order_down

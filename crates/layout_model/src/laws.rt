@@ -1,4 +1,4 @@
-//! Laws of the definitions: each is the contract of a function that does nothing.
+//! Laws of the definitions, each stated as the contract of a function with an empty body.
 
 ghost use Rattle.std.specs.Prelude.{◌==◌, ◌||◌, ◌&&◌, ◌≡◌, ◌<◌, ◌≤◌, ◌⊎◌, ◌+◌, ◌-◌, ℕ, ℤ, pos, ◌+ℤ◌, ◌-ℤ◌, ◌≤ℤ◌, Some, None, is_some, true, false, not, find};
 ghost use Rattle.px_units.specs.Lengths.{LengthValue, cap, clamped, Automatic, Pixels, Percentage};
@@ -20,7 +20,7 @@ pub fn depth_counts_ancestors()
     ensures top { (at : ℕ → Node) (n : ℕ) → (at n).parent ≡ None → depth_of at n ≡ 1 }
 {}
 
-/// The inclusive ancestors of a node are the node and those of its parent, and both stand in the tree of one top.
+/// The inclusive ancestors of a node are the node and those of its parent, and both are in the tree of the same top.
 pub fn paths_lead_to_the_top()
     ensures ancestor { (at : ℕ → Node) (a c p : ℕ) → (at c).parent ≡ Some p → depth_of at p ≤ levels →
         is_in_path at a c ≡ (a == c || is_in_path at a p) }
@@ -29,7 +29,7 @@ pub fn paths_lead_to_the_top()
     ensures top { (at : ℕ → Node) (n : ℕ) → (at n).parent ≡ None → top_of at n ≡ n }
 {}
 
-/// Children get their parent's used width, and its used height where that is definite, whatever their own heights add up to.
+/// Children get their parent's used width, and its used height if that is definite, whatever their own heights add up to.
 pub fn inputs_do_not_depend_on_children()
     ensures width { (item : Item) (inputs : Inputs) (inside : ℕ) →
         (child_inputs item inputs).width ≡ (computed item inputs inside).width }
@@ -49,8 +49,8 @@ pub fn inputs_do_not_depend_on_children()
     ensures flow { (item : Item) (inputs : Inputs) → (child_inputs item inputs).flow ≡ true }
 {}
 
-/// What holds a box: the parent's box in flow, the screen for a fixed one, and for an absolute one its parent's box where that is
-/// positioned, else what would hold an absolute box in the parent's place. A node without a parent is in flow, and the page holds it.
+/// The holder of a box: in flow its parent's box, for a fixed box the screen, and for an absolute box its parent's box if that is
+/// positioned, otherwise the holder that the parent would have as an absolute box. A node without a parent is in flow, and the page holds it.
 pub fn holders_go_up()
     ensures flow { (at : ℕ → Node) (c p : ℕ) → (at c).parent ≡ Some p → is_in_flow (at c) ≡ true → holder at c ≡ HeldByElement p }
     ensures absolute { (at : ℕ → Node) (c p : ℕ) → (at c).parent ≡ Some p → depth_of at p ≤ levels →
@@ -65,8 +65,8 @@ pub fn holders_go_up()
     ensures shallow { (at : ℕ → Node) → IsShallow at → IsShallow (held at) }
 {}
 
-/// A node has a box where its parent is a block with one and it is displayed; a root element where it is displayed. There is no box
-/// in another tree.
+/// A node has a box if it is displayed and its parent is a block that has one; a root element if it is displayed. Nodes in any other
+/// tree have none.
 pub fn boxes_go_down()
     ensures root { (at : ℕ → Node) (root : ℕ) (viewport : Inputs) (n : ℕ) → (at n).parent ≡ None →
         is_some (inputs_in at root viewport n) ≡ (not (at n).item.style.hidden && n == root) }
@@ -75,8 +75,8 @@ pub fn boxes_go_down()
         ≡ (not (at c).item.style.hidden && (is_block (at p).item.kind && is_some (inputs_in at root viewport p))) }
 {}
 
-/// The inputs of a node with a box are the viewport's for a root element, in flow what its parent hands down, and out of flow the size
-/// of the padding box of the element that holds it, or of the viewport where none does.
+/// The inputs of a node with a box are the viewport's for a root element, in flow what its parent passes down, and out of flow the size
+/// of the padding box of the element that holds it, or of the viewport if no element does.
 pub fn inputs_go_down()
     ensures root { (at : ℕ → Node) (root : ℕ) (viewport inputs : Inputs) (n : ℕ) → (at n).parent ≡ None →
         inputs_in at root viewport n ≡ Some inputs → inputs ≡ record viewport { flow = true } }
@@ -93,15 +93,15 @@ pub fn inputs_go_down()
         inputs_in at root viewport n ≡ Some inputs → inputs ≡ record viewport { flow = false } }
 {}
 
-/// A box comes from those of its children alone, which are stacked in it.
+/// A box is computed from its inputs and its children's boxes alone, which are stacked in it.
 pub fn boxes_hold_their_children()
     ensures value { (at : ℕ → Node) → IsLinked at → IsShallow at → (inputs : Inputs) (n : ℕ) →
         box_in at inputs n
         ≡ computed ((at n).item) inputs (total at (box_in at (child_inputs ((at n).item) inputs)) (kids_of (at n))) }
 {}
 
-/// A used size is at least the minimum, and at most a maximum that is not below the minimum. Under `border-box` this is so of
-/// the border box, where its edges alone are not wider than the maximum.
+/// A used size is at least the minimum, and at most a maximum that is not below the minimum. With `border-box` this applies to
+/// the border box, unless its border and padding alone exceed the maximum.
 pub fn used_sizes_keep_their_limits()
     ensures least_content_width { (item : Item) (inputs : Inputs) (inside least : ℕ) →
         item.style.box_sizing ≡ ContentBox → against (item.style.min_width) (Some (inputs.width)) ≡ Some least →
@@ -137,8 +137,9 @@ pub fn used_sizes_keep_their_limits()
         border_height (computed item inputs inside) ≤ most }
 {}
 
-/// A block of automatic width, not limited, fills its containing width with its margins, where its edges leave room; out of flow it does
-/// so with its insets. Between two vertical insets a block of automatic height out of flow fills its containing height so.
+/// The margin box of a block with `width: auto` and no minimum or maximum fills its containing width, if margins, borders and padding
+/// leave room; out of flow, the margin box and the two horizontal insets do. Likewise, out of flow a block with `height: auto` and two
+/// vertical insets fills its containing height.
 pub fn automatic_blocks_fill_their_width()
     ensures value { (item : Item) (inputs : Inputs) (inside : ℕ) → item.kind ≡ BlockKind → inputs.flow ≡ true →
         item.style.width ≡ Automatic → item.style.min_width ≡ Pixels 0 → item.style.max_width ≡ None →
@@ -161,22 +162,22 @@ pub fn automatic_blocks_fill_their_width()
         top +ℤ pos (own.margin.top + border_height own + own.margin.bottom) +ℤ bottom ≡ pos height }
 {}
 
-/// No used size is greater than the largest length.
+/// No used size exceeds the largest length.
 pub fn used_sizes_are_capped()
     ensures width { (item : Item) (inputs : Inputs) (inside : ℕ) → (computed item inputs inside).width ≤ 2147483647 }
     ensures height { (item : Item) (inputs : Inputs) (inside : ℕ) → (computed item inputs inside).height ≤ 2147483647 }
 {}
 
-/// Nothing is scrolled past its range.
+/// No scroll offset in force exceeds its range.
 pub fn offsets_stay_in_range()
     ensures element { (at : ℕ → Node) (stored : ℕ → ℕ × ℕ) (view : View) (n : ℕ) →
         IsWithin (offset_in_force at stored view n) (range_of at view n) }
     ensures viewport { (at : ℕ → Node) (view : View) → IsWithin (view_in_force at view) (range_of_view at view) }
 {}
 
-/// A flat place is the parent's, moved by the own offset, and for a relative box by its shift too. Out of flow it is on each axis by
-/// the inset of the near side, else by that of the far one, from the padding box of what holds it; with neither it is the place in the
-/// flow. (CSS 2.2, 9.4.3, 10.3.7 and 10.6.4.)
+/// A flat place is the parent's, moved by the box's offset, and for a relative box also by its insets. Out of flow it is, on each axis,
+/// given by the inset of the start side (`left`, `top`), otherwise by that of the end side, from the padding box of the holder; with
+/// neither it is the static position. (CSS 2.2, 9.4.3, 10.3.7 and 10.6.4.)
 pub fn flat_places_go_down()
     ensures root { (at : ℕ → Node) (view : View) (n : ℕ) → (at n).parent ≡ None →
         flat_place at view n ≡ moved (pos 0, pos 0) (offset_of at view n) }
@@ -207,8 +208,8 @@ pub fn flat_places_go_down()
         (flat_place at view n).0 ≡ clamped (left +ℤ pos (box_in at inputs n).margin.left) }
 {}
 
-/// A place is the flat one, moved back by what each element that holds the box is scrolled, and by what the viewport is where the screen
-/// holds none of them. So what one element holds moves with it.
+/// A place is the flat one, moved back by the scroll offset of each element that holds the box, directly or in turn, and by the
+/// viewport's if the page, not the screen, ends the chain of holders. So what an element holds moves along with it.
 pub fn places_add_up()
     ensures element { (at : ℕ → Node) (stored : ℕ → ℕ × ℕ) (view : View) → IsShallow at → (n h : ℕ) → holder at n ≡ HeldByElement h →
         let place = moved_back (place_in at stored view h) (offset_in_force at stored view h) in
@@ -220,8 +221,8 @@ pub fn places_add_up()
         place_in at stored view n ≡ flat_place at view n }
 {}
 
-/// The offset of an element in its parent, by their boxes: past the parent's left border and padding and the own left
-/// margin, and downwards past its earlier siblings in flow too.
+/// The offset of an element in its parent, from their boxes: past the parent's left border and padding and the element's left
+/// margin, and likewise downwards, past the element's earlier siblings in flow too.
 pub fn offsets_come_from_boxes()
     ensures across { (at : ℕ → Node) (view : View) (inputs own : Inputs) (c p : ℕ) → (at c).parent ≡ Some p →
         inputs_in_view at view p ≡ Some inputs → inputs_in_view at view c ≡ Some own →
@@ -236,7 +237,7 @@ pub fn offsets_come_from_boxes()
         offset_of at view n ≡ capped ((box_in at inputs n).margin.left, (box_in at inputs n).margin.top) }
 {}
 
-/// A scroll container reaches over its padding box at least, and a viewport over its own size, as far as the largest
+/// The reach of a scroll container is at least its padding box, and that of a viewport at least its size, up to the largest
 /// length.
 pub fn reaches_cover_the_padding_box()
     ensures element { (at : ℕ → Node) (view : View) (inputs : Inputs) (n : ℕ) →
@@ -245,8 +246,8 @@ pub fn reaches_cover_the_padding_box()
     ensures viewport { (at : ℕ → Node) (view : View) → IsWithin (capped (view_size view)) (reach_of_view at view) }
 {}
 
-/// A scroll container reaches at least as far as each box that it is the nearest clipping one to hold, and a viewport as far as each
-/// box that none clips and the page holds, where each node with a parent is among its children.
+/// The reach of a scroll container covers each box whose nearest clipping holder it is, and that of a viewport each box that no
+/// element clips and whose chain of holders ends at the page, up to the largest length, if each node with a parent is among its children.
 pub fn no_box_passes_the_reach()
     ensures across { (at : ℕ → Node) → IsListed at → IsShallow at → (view : View) (inputs below : Inputs) (n d : ℕ) →
         inputs_in_view at view n ≡ Some inputs → inputs_in_view at view d ≡ Some below → clipped_by at d ≡ Some n →
@@ -268,8 +269,8 @@ pub fn no_box_passes_the_reach()
         ((flat_place at view d).1 +ℤ pos (border_height (box_in at below d))) ≤ℤ pos (reach_of_view at view).1 }
 {}
 
-/// How far something reaches is met: by the padding box, or the viewport's own size, or by one of these border boxes, or it is the
-/// largest length.
+/// A reach is no larger than needed: it is the padding box, or the viewport's size, or the far edge of one of these border boxes, or
+/// the largest length.
 pub fn each_reach_is_met()
     ensures across { (at : ℕ → Node) (view : View) (inputs : Inputs) (n : ℕ) → inputs_in_view at view n ≡ Some inputs →
         ((reach_of at view n).0 ≡ cap (padding_width (box_in at inputs n))) ⊎ ((reach_of at view n).0 ≡ 2147483647) ⊎

@@ -4,6 +4,7 @@ use Rattle.std.proofs.Common.{arith, ◌≤◌, ◌≡◌, ◌≢◌, refl, sym,
 use Rattle.std.specs.Prelude.{ℕ, zero, suc, ◌<◌, min, fold, List, [], ◌∷◌, ◌++◌, length, map, Option, Some, None, IfSome, unwrap_or, Bool, true, false, ◌&&◌, ◌==◌, is_some, ⊤, ◌+◌, cond, count_by}
 use Rattle.std.specs.List.{AllByRecursion, list_any}
 use Rattle.std.proofs.lemmas.List.Sums.{sum_by-cons}
+use Rattle.std.proofs.lemmas.Bool.{or_parts}
 use Rattle.layout_model.specs.Nodes.{Node, path_above, path_up, path_of, depth_of, levels, is_among, is_in_path}
 use Rattle.script_model.specs.TraceLines.{TraceLine}
 use Rattle.script_model.specs.Syntax.{Operand, Action, Simple}
@@ -19,7 +20,6 @@ use Rattle.page_model.specs.Commands.{does}
 use Rattle.page_laws.proofs.Lists.{all-mapped, all-map}
 use Rattle.page_laws.specs.Successors.{OnDid}
 use Rattle.page_laws.proofs.Steps.{on_did-all, on_did-with}
-use Rattle.page_laws.proofs.Depths.{or-false}
 use Rattle.page_laws.proofs.Keeping.{counted}
 use Rattle.page_laws.specs.Bounds.{IsWithinLimits}
 use Rattle.page_laws.proofs.Later.{all-so}
@@ -175,7 +175,7 @@ module _ (tree after : Tree) where
   others-among : (n : ℕ) (path : List ℕ) → is_among n path ≡ false → AllByRecursion (λ m. m ≢ n) path
   unfolding is_among
   others-among n [] none = tt
-  others-among n (m ∷ path) none = let parts = or-false (n == m) (is_among n path) none in (different n m (parts.0), others-among n path (parts.1))
+  others-among n (m ∷ path) none = let parts = or_parts (n == m) (is_among n path) none in (different n m (parts.0), others-among n path (parts.1))
 
   -- of a path, where an element is moved that has no parent or isn't in the path
   step-fixed : (step : Step ℕ) (targets : List ℕ) → KeepsParents (λ m. OnDid step (λ n. m ≢ n)) tree after →
@@ -241,15 +241,15 @@ gentle-moves script targets line action present world gentle = by (moved_operand
 
 any-behind : (test : ℕ → Bool) (xs ys : List ℕ) → list_any test (xs ++ ys) ≡ false → list_any test ys ≡ false
 any-behind test [] ys none = none
-any-behind test (x ∷ xs) ys none = any-behind test xs ys ((or-false (test x) _ none).1)
+any-behind test (x ∷ xs) ys none = any-behind test xs ys ((or_parts (test x) _ none).1)
 
 own-meant : (active : List Observation) (others : List ℕ) →
     AllByRecursion (λ (it : Observation). IsMeant (map (λ (each : Observation). each.target) active ++ others) (it.target)) active
 own-meant [] others = tt
 own-meant (x ∷ xs) others = (
-  (λ test none. (or-false (test (x.target)) _ none).0),
+  (λ test none. (or_parts (test (x.target)) _ none).0),
   all-map _ (λ (it : Observation). IsMeant (x.target ∷ (map (λ (each : Observation). each.target) xs ++ others)) (it.target))
-      (λ it meant test none. meant test ((or-false (test (x.target)) _ none).1)) xs (own-meant xs others),
+      (λ it meant test none. meant test ((or_parts (test (x.target)) _ none).1)) xs (own-meant xs others),
 )
 
 if-meant : (own : Bool) (active : List Observation) (others : List ℕ) →

@@ -3,6 +3,7 @@ use Rattle.std.proofs.Common.{◌≡◌, refl, ap, sym, subst, ◌∙◌, arith,
 use Rattle.std.proofs.lemmas.Bool.Decides.{nat_tests}
 use Rattle.std.specs.Prelude.{ℕ, zero, suc, ◌+◌, ◌<◌, nat_lt, nat_eq, ◌&&◌, ◌||◌, Bool, true, false, cond, is_some, List, [], ◌∷◌, fold, map, length, Option, Some, None}
 use Rattle.std.specs.List.{list_any}
+use Rattle.std.proofs.lemmas.Bool.{and_parts}
 use Rattle.page_model.specs.World.{Observation, ResizeObserver, World}
 use Rattle.page_model.specs.Documents.{is_active}
 use Rattle.page_model.specs.Gathering.{SizeEntry, sight_of, size_entry, is_of, is_filled, has_active, due_at}
@@ -124,12 +125,8 @@ module _ (script : Script) (document : ℕ) (world : World) where
     unfolding broadcast by_place
     broadcast-found few = reached most_steps 0 (omega (arith, few)) (λ o less. absurd (let no : ⊥ = omega (arith, less) in no))
 
-both-true : (a b : Bool) → (a && b) ≡ true → (a ≡ true) × (b ≡ true)
-both-true true b both = (refl, both)
-both-true false b both = absurd (true≢false (sym both))
-
 pub round-finds : (script : Script) (document : ℕ) (world : World) → length world.resize_observers.made ≤ 4096 → goes_on document world ≡ true →
     is_some (broadcast script document world).state.shallowest ≡ true
 round-finds script document world few goes =
-    let both = both-true (is_active (world.tree) document) (has_active document (world.resize_observers)) goes in
+    let both = and_parts (is_active (world.tree) document) (has_active document (world.resize_observers)) goes in
     broadcast-found script document world (both.0) (both.1) few

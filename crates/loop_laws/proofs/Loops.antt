@@ -4,6 +4,7 @@ use Rattle.std.proofs.Common.{◌≡◌, refl, ap, sym, subst, ◌∙◌, arith,
 use Rattle.std.specs.Prelude.{ℕ, ◌+◌, ◌-◌, ◌*◌, ◌<◌, Bool, true, false, ◌&&◌, List, [], ◌∷◌, length, count_by, unwrap_or, zero, suc, min, max, fold, flat_map, sum_by, ⊤, not, cond, ◌||◌, map, filter}
 use Rattle.std.specs.List.{AllByRecursion, list_any}
 use Rattle.std.proofs.lemmas.List.Sums.{sum_by-cons}
+use Rattle.std.proofs.lemmas.Bool.{and_parts, or_parts}
 use Rattle.page_model.specs.World.{World, ResizeObserver}
 use Rattle.page_model.specs.Documents.{is_active}
 use Rattle.page_model.specs.Gathering.{has_active, Sight, sight_of, has_changed, is_deeper, is_of, gathered_if, is_filled, has_skipped}
@@ -13,7 +14,6 @@ use Rattle.page_model.specs.Loop.{Broadcast, gather, broadcast, round, round_end
 use Rattle.page_laws.specs.Bounds.{IsWithinLimits}
 use Rattle.page_laws.proofs.Limits.{most-commands}
 use Rattle.page_laws.proofs.Turns.{gather-within, broadcast-within, round-within}
-use Rattle.page_laws.proofs.Depths.{or-false}
 use Rattle.loop_laws.specs.Moments.{broadcast_moments, onward, following, listed_if, along_repeat}
 use Rattle.loop_laws.specs.Rounds.{goes_on, rounds_up_to, round_depth, IsDeeper, rounds_left}
 use Rattle.loop_laws.specs.Uprooting.{uproots, gathered_targets, uprootings}
@@ -78,10 +78,6 @@ less-left begun now depth least more most bounded deeper = grind (arith, more, m
 pub few-begun : (world : World) → IsWithinLimits world → world.begun ≤ 2000000
 few-begun world within = omega (arith, within.commands, most-commands (world.version))
 
-pub and-first : (a b : Bool) → (a && b) ≡ true → a ≡ true
-and-first true b both = refl
-and-first false b both = both
-
 pub begins-below : (world : World) → rounds_left world 0 < most_steps
 begins-below world = omega arith
 
@@ -114,7 +110,7 @@ module _ (script : Script) (document : ℕ) where
       IsLess (goes_on document) (round script document) IsRoundLeft left (round script document world).state
   falls left world is goes next still =
       let after = (round script document world).state in
-      let fell = round-falls (is.depth) world (is.within) (is.deeper) goes next (and-first _ (has_active document (after.resize_observers)) still) in
+      let fell = round-falls (is.depth) world (is.within) (is.deeper) goes next ((and_parts _ (has_active document (after.resize_observers)) still).0) in
       record {
         now = rounds_left after (round_depth script document world);
         less = omega (arith, fell.1, is.most);
@@ -195,7 +191,7 @@ module _ (script : Script) (document : ℕ) where
       AreRounds depth (listed_if (λ now. now ∷ following (round script document now) (starts_from most)) start goes)
   rounds-if most depth start false goes within deeper each = tt
   rounds-if most depth start true goes within deeper each =
-      let deep = deeper (and-first _ (has_active document (start.resize_observers)) goes) in
+      let deep = deeper ((and_parts _ (has_active document (start.resize_observers)) goes).0) in
       let ended = round script document start in (
         is-round depth start within deep goes,
         others-are most (round_depth script document start) (ended.state) (ended.flow)
@@ -310,7 +306,7 @@ module _ (document depth : ℕ) (sight : Sight) where
       ≡ list_any (λ (x : ResizeObserver). is_of document x && list_any (has_changed sight) (x.targets)) (map after made)
   each-skipped [] none = refl
   each-skipped (x ∷ xs) none =
-      let parts = or-false _ _ none in
+      let parts = or_parts _ _ none in
       ap (λ (some : Bool). some || list_any (λ (x : ResizeObserver). is_of document x && is_filled (x.skipped)) (map after xs))
       (one-skipped x (is_of document x) refl (parts.0))
       ∙ ap (λ (some : Bool). (is_of document (after x) && list_any (has_changed sight) (after x).targets) || some) (each-skipped xs (parts.1))

@@ -1,4 +1,4 @@
-//! Laws of the count of commands over callbacks and rounds.
+//! Laws about the count of commands over callbacks and rounds.
 
 ghost use Rattle.std.specs.Prelude.{◌≡◌, ◌+◌, ℕ, List, Option, length};
 ghost use Rattle.script_model.specs.Syntax.{Command, Block};
@@ -9,8 +9,8 @@ ghost use Rattle.page_model.specs.Loop.{broadcast, round};
 ghost use Rattle.loop_laws.specs.Still.{IsStill, IsStillOutside};
 ghost use Rattle.loop_laws.specs.Moments.{command_moments, block_moments, call_moments, broadcast_moments};
 
-/// The count of commands never falls, and where it stands nothing else happens: a command with its block, a block and a callback leave
-/// the whole world as it was, a broadcast of resize observations and a round of the resize loop all of it but the resize observers.
+/// The count of commands never falls, and if it doesn't rise, nothing else changes: a command with its block, a block and a callback
+/// leave the whole world unchanged, a broadcast of resize observations and a round of the resize loop all of it but the resize observers.
 pub fn nothing_changes_while_no_command_begins()
     ensures commands { (script : Script) (entries : List Present) (command : Command) (present : Present) (world : World) →
         IsStill world (run_command script entries command present world).state }
@@ -23,7 +23,7 @@ pub fn nothing_changes_while_no_command_begins()
     ensures rounds { (script : Script) (document : ℕ) (world : World) → IsStillOutside world (round script document world).state }
 {}
 
-/// The moments that are listed of a run are as many as the commands that were begun in it: none is left out and none is listed twice.
+/// The number of moments that are listed for a run is the number of commands begun in it: none is left out and none is listed twice.
 pub fn moments_are_the_commands_begun()
     ensures commands { (script : Script) (entries : List Present) (command : Command) (present : Present) (world : World) →
         (run_command script entries command present world).state.begun

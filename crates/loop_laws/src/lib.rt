@@ -1,4 +1,4 @@
-//! Laws of the resize loop and of the run of tasks.
+//! Laws about the resize loop and the queued tasks.
 #![tactic(auto, unfolding(crate::specs::Examples::loop_seen))]
 
 mod counts;

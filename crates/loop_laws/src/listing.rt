@@ -1,4 +1,4 @@
-//! The laws that no resize loop is left out, and what is so of each.
+//! The laws that no resize loop is left out, and what holds for each.
 
 ghost use Rattle.std.specs.Prelude.{◌≡◌, ℕ, List, flat_map};
 ghost use Rattle.std.specs.List.{AllByRecursion};
@@ -13,9 +13,9 @@ ghost use Rattle.page_laws.specs.Bounds.{IsWithinLimits};
 ghost use Rattle.loop_laws.specs.RunLoops.{tick_loops, item_loops, loops_of_run, loop_lines, lines_of_loop, IsExact};
 ghost use Rattle.loop_laws.specs.WholeLoops.{resize_rounds, round_starts, line_of_round};
 
-/// The loops that are listed of a tick, of an item of a script and of its run are all that there are: the lines of rounds and of loop
-/// errors that it writes are those that these loops write, in their order. And the lines that a loop's rounds write are those of the rounds
-/// that the laws of depths speak of, in their order, each with that round's depth; one that is broken off writes none. It is so of every world.
+/// The loops that are listed for a tick, for an item of a script and for its run are complete: the lines of rounds and of loop
+/// errors that it writes are those that these loops write, in order. And the lines that a loop's rounds write are those of the rounds
+/// that the laws of depths are about, in order, each with that round's depth; one that is interrupted writes none. This holds in every world.
 pub fn all_loops_are_listed()
     ensures ticks { (script : Script) (world : World) →
         loop_lines (tick script world).lines ≡ flat_map (lines_of_loop script) (tick_loops script world) }
@@ -27,10 +27,10 @@ pub fn all_loops_are_listed()
         loop_lines (run_items items (opening_world version)).lines ≡ flat_map (lines_of_loop (handlers_in items)) (loops_of_run version items) }
 {}
 
-/// What the laws of resize loops say holds of each that is listed, of an item that is carried out in a page within the limits, and of a whole
-/// run, which begins in one: a round is deeper than the one before it, unless a command of that round uproots what was gathered; with m such
-/// commands, and the greatest depth H of what it delivers, a loop has at most (m + 1) * H rounds; and the error is fired exactly where the
-/// rounds ended with the document Active and a target whose size differs from its last reported one.
+/// What the laws of resize loops say holds for each loop that is listed for an item that is carried out in a page within the limits, or for a
+/// whole run, which begins in one: a round is deeper than the one before it, unless a command of that round uproots what was gathered; with m
+/// such commands, and the greatest depth H of what it delivers, a loop has at most (m + 1) * H rounds; and the error is fired exactly where
+/// the rounds ended with the document Active and a target whose size differs from its last reported one.
 pub fn listed_loops_are_exact()
     ensures items { (script : Script) (item : Item) (world : World) → IsWithinLimits world →
         AllByRecursion (IsExact script) (item_loops script item world) }

@@ -1,4 +1,4 @@
-//! Laws of the rounds of a resize loop and of the error behind them.
+//! Laws about the rounds of a resize loop and the error event after them.
 
 ghost use Rattle.std.specs.Prelude.{◌≡◌, ◌<◌, ◌&&◌, ℕ, IsTrue, false};
 ghost use Rattle.page_model.specs.World.{World};
@@ -10,10 +10,10 @@ ghost use Rattle.page_laws.specs.Bounds.{IsWithinLimits};
 ghost use Rattle.loop_laws.specs.Rounds.{goes_on, rounds_up_to, round_depth, IsDeeper, rounds_left};
 ghost use Rattle.loop_laws.specs.WholeLoops.{resize_rounds, has_undelivered, fire_error};
 
-/// No resize loop is cut off by the bound of its recursion. For what waits after a gathering at a depth is deeper than that, and a
-/// round that begins with it and leaves its document Active ends with a gathering at a depth again; by then a command was begun, or the depth
-/// is greater. So `rounds_left` falls with each round, and the loop is the same with any bound above it: its rounds can be taken
-/// out of it one by one with the bound left as it is, and it ends where nothing is active any more, unless by a limit before.
+/// No resize loop is cut off by the bound on its recursion. The targets gathered at a depth are deeper than that, and a round that begins
+/// with them and leaves its document Active ends with gathering at a depth again; by then a command has begun, or the depth is greater. So
+/// `rounds_left` falls with each round, and the loop is the same with any bound above it: its rounds can be unrolled one by one without
+/// lowering the bound, and it ends when nothing is left to deliver or its document is no longer Active, unless a limit was met before.
 pub fn resize_loops_come_to_rest()
     ensures gathered { (document depth : ℕ) (world : World) → IsDeeper document depth (gather document depth world) }
     ensures falls { (script : Script) (document depth : ℕ) (world : World) → IsWithinLimits world → IsDeeper document depth world →
@@ -38,8 +38,8 @@ pub fn resize_loops_come_to_rest()
         ≡ (rounds_up_to most script document (gather document 0 world) followed_by report_skipped script document) }
 {}
 
-/// The loop error is fired exactly where the rounds ended with the document Active and a target of one of its observers has a size, as
-/// it is then, that differs from its last reported one.
+/// The loop error is fired exactly where the rounds ended with the document Active and a target of one of its observers has, at that
+/// moment, a size that differs from its last reported one.
 pub fn loop_errors_are_exact()
     ensures { (script : Script) (document : ℕ) (world : World) → IsWithinLimits world →
         resize_loop script document world

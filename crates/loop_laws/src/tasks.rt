@@ -1,4 +1,4 @@
-//! Laws of the run of the queued tasks.
+//! Laws about running the queued tasks.
 
 ghost use Rattle.std.specs.Prelude.{◌≡◌, ◌<◌, ℕ, IsTrue, false};
 ghost use Rattle.page_model.specs.World.{World};
@@ -9,10 +9,10 @@ ghost use Rattle.page_model.specs.Ticks.{run_first, run_tasks};
 ghost use Rattle.page_laws.specs.Bounds.{IsWithinLimits};
 ghost use Rattle.loop_laws.specs.TaskRuns.{tasks_up_to, tasks_left};
 
-/// No run of tasks is cut off by the bound of its recursion. For each task is taken off before it is run, and a command posts one task at
-/// most, so `tasks_left`, the tasks that wait and the commands that can still begin, falls with each task. The run is the same with any bound
-/// above it: its tasks can be taken out of it one by one with the bound left as it is, and it ends where no task waits any more, unless
-/// by a limit before.
+/// Running the tasks is never cut off by the bound on its recursion. Each task is dequeued before it is run, and a command posts at most
+/// one task, so `tasks_left`, the queued tasks plus the commands that can still begin, falls with each task. The run is the same with any
+/// bound above it: its tasks can be unrolled one by one without lowering the bound, and it ends when no task is queued any more, unless
+/// a limit was met before.
 pub fn runs_of_tasks_come_to_rest()
     ensures falls { (script : Script) (world : World) → IsWithinLimits world → IsTrue (has_tasks (world.tasks)) →
         tasks_left ((run_first script (world.tasks) world).state) < tasks_left world }

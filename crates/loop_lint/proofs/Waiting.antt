@@ -3,6 +3,7 @@ use Rattle.std.proofs.Common.{◌≡◌, ◌≢◌, refl, sym, subst, ap, ◌∙
 use Rattle.std.proofs.lemmas.Bool.Decides.{nat_tests}
 use Rattle.std.specs.Prelude.{ℕ, zero, suc, ◌<◌, ◌==◌, not, ◌&&◌, ◌||◌, nat_lt, nat_eq, Bool, true, false, cond, List, [], ◌∷◌, length, map, filter}
 use Rattle.std.specs.List.{AllByRecursion, list_any}
+use Rattle.std.proofs.lemmas.Bool.{false_from_ne_true, or_parts}
 use Rattle.layout_model.specs.Nodes.{path_above, path_up, path_of, depth_of}
 use Rattle.page_model.specs.World.{Extent, Observation, ResizeObserver, ResizeObservers, Tree, World}
 use Rattle.page_model.specs.Lookups.{same_extent, change_at, entry_or, no_resize_observer, resize_observer_at}
@@ -11,7 +12,6 @@ use Rattle.page_model.specs.Gathering.{Sight, sight_of, observed_size, has_chang
 use Rattle.page_model.specs.Loop.{gather}
 use Rattle.page_model.specs.Ranges.{Counts, counts_of, IsResizeObserverIn, IsInRange}
 use Rattle.page_laws.proofs.Lists.{all-map, all-mapped}
-use Rattle.page_laws.proofs.Depths.{or-false}
 use Rattle.loop_laws.proofs.Folds.{all-two}
 use Rattle.loop_lint.proofs.Calm.{Passes, Calm}
 
@@ -26,10 +26,6 @@ Waits sight place o active x = has_changed sight x ≡ true → (place ≤ o) ×
 
 pub record AreFine (document place : ℕ) (sight : Sight) (it : ResizeObservers) : Type 0 where
   pub each : (o : ℕ) → Passes (Waits sight place o) document (resize_observer_at it o)
-
-unchanged : (changed : Bool) → (changed ≡ true → ⊥) → changed ≡ false
-unchanged true never = absurd (never refl)
-unchanged false never = refl
 
 none-listed : (x : Observation) → (is_listed [] x ≡ true) → ⊥
 none-listed x is = true≢false (sym is)
@@ -252,7 +248,7 @@ module _ (document : ℕ) (sight : Sight) where
   none-changed : (o : ℕ) (active targets : List Observation) → is_filled active ≡ false → AllByRecursion (Waits sight 0 o active) targets →
       list_any (has_changed sight) targets ≡ false
   none-changed o [] targets none all =
-      none-any (has_changed sight) targets (all-map (Waits sight 0 o []) _ (λ x waits. unchanged (has_changed sight x) (λ changed. none-listed x ((waits changed).1))) targets all)
+      none-any (has_changed sight) targets (all-map (Waits sight 0 o []) _ (λ x waits. false_from_ne_true (has_changed sight x) (λ changed. none-listed x ((waits changed).1))) targets all)
   none-changed o (x ∷ xs) targets none all = absurd (true≢false none)
 
   own-changed : (own filled changed : Bool) → (own && filled) ≡ false → (own ≡ true → filled ≡ false → changed ≡ false) → (own && changed) ≡ false
@@ -264,7 +260,7 @@ module _ (document : ℕ) (sight : Sight) where
       list_any (λ (it : ResizeObserver). is_of document it && list_any (has_changed sight) (it.targets)) made ≡ false
   rest-settled [] none fine = refl
   rest-settled (x ∷ xs) none fine =
-      let parts = or-false (is_of document x && is_filled (x.active)) _ none in
+      let parts = or_parts (is_of document x && is_filled (x.active)) _ none in
       ap (λ (some : Bool). some || list_any (λ (it : ResizeObserver). is_of document it && list_any (has_changed sight) (it.targets)) xs)
       (own-changed (is_of document x) (is_filled (x.active)) (list_any (has_changed sight) (x.targets)) (parts.0)
       (λ own empty. none-changed 0 (x.active) (x.targets) empty (fine 0 own)))
@@ -291,7 +287,7 @@ all-settled document place sight it fine past o own = by (nat_lt o place) refl
     by true is =
         let observer = resize_observer_at it o in
         all-map (Waits sight place o (observer.active)) _
-        (λ x waits. unchanged (has_changed sight x) (λ changed. let most : place ≤ o = (waits changed).0 in grind (arith, tests, is, most)))
+        (λ x waits. false_from_ne_true (has_changed sight x) (λ changed. let most : place ≤ o = (waits changed).0 in grind (arith, tests, is, most)))
         (observer.targets) (fine.each o own)
     by false is =
         let most : length it.made ≤ o = grind (arith, tests, is, past) in

@@ -1,4 +1,4 @@
-//! The verdicts on a script, and the command that one rests on.
+//! The verdicts on a script, and the command responsible for one.
 
 ghost use Rattle.std.specs.Prelude.{◌≡◌, ◌↔◌, IsTrue, IsNone, cond, [], slice_get, map};
 ghost use Rattle.script_syntax.specs.Seen.{item_of};
@@ -25,7 +25,7 @@ fn is_unnamed(items: &[Item], name: Name) -> bool
     true
 }
 
-/// The line of the first command of a handler that a law forbids, where the handler is a loop handler.
+/// Returns the line of the first command of a handler that a law forbids, if the handler is a loop handler.
 fn blame_in(items: &[Item], handler: &Handler, law: Law) -> Option<u32>
     ensures { result ≡ slice_get (cond (is_unnamed (map item_of items.now) handler.now.name) [] (block_lines (forbidden_by law) handler.now.commands)) 0 }
 {
@@ -36,7 +36,7 @@ fn blame_in(items: &[Item], handler: &Handler, law: Law) -> Option<u32>
     Some(line)
 }
 
-/// The same of an item, which has none where it is no handler.
+/// Like `blame_in`, for an item; `None` if it isn't a handler.
 fn blame_at(items: &[Item], item: &Item, law: Law) -> Option<u32>
     ensures { result ≡ slice_get (lines_at (forbidden_by law) (map item_of items.now) (item_of item.now)) 0 }
 {
@@ -46,9 +46,9 @@ fn blame_at(items: &[Item], item: &Item, law: Law) -> Option<u32>
     }
 }
 
-/// The line, from 1, of the first command in the text that stands in a loop handler, at any nesting, and that a law forbids. A loop
-/// handler is one that an `ro` command anywhere in the script names. None exactly where the script keeps the law, which then promises what
-/// `lint` says of it. No memory is taken.
+/// Returns the line, from 1, of the first command in the text that is in a loop handler, at any nesting, and that a law forbids. A loop
+/// handler is one that an `ro` command anywhere in the script names. Returns `None` exactly if the script obeys the law; then the promise
+/// of the law holds, as for `lint`. Allocates nothing.
 pub fn blame(script: &Script, law: Law) -> Option<u32>
     ensures line { result ≡ slice_get (loop_handler_lines (forbidden_by law) script.now.items) 0 }
     ensures none { IsNone result ↔ IsTrue (is_empty (loop_handler_lines (forbidden_by law) script.now.items)) }
@@ -64,9 +64,9 @@ pub fn blame(script: &Script, law: Law) -> Option<u32>
     None
 }
 
-/// Which laws a script keeps, by what its loop handlers hold; and so what is promised of every run of every script with these handlers and
-/// these loop handlers, whatever else it holds: if it is steady, that every resize loop's rounds go deeper and are few, and if it is quiet,
-/// that no line of a loop error is written. No memory is taken.
+/// Returns which laws a script obeys, which depends on the commands in its loop handlers. The promise is about every run of every script
+/// with these handlers and these loop handlers, whatever else it contains: if it is steady, the rounds of every resize loop go deeper and
+/// are few, and if it is quiet, no line of a loop error is written. Allocates nothing.
 pub fn lint(script: &Script) -> Verdict
     ensures verdict { result ≡ record { steady = is_steady script.now.items; quiet = is_quiet script.now.items } }
     ensures steady { IsTrue result.steady → RunsSteadily script.now.items }

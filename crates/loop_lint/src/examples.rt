@@ -1,9 +1,9 @@
-//! Worked examples, computed from a script's bytes: what each certificate forbids is forbidden for a reason.
+//! Worked examples, computed from a script's bytes, of why each certificate forbids what it does.
 
 ghost use Rattle.std.specs.Prelude.{◌≡◌, [], ◌∷◌, codes};
 ghost use Rattle.loop_lint.specs.Examples.{seen};
 
-/// Each command that a quiet script's loop handlers don't hold can alone cause the loop error.
+/// Each command that is forbidden in a quiet script's loop handlers can cause the loop error on its own.
 pub fn each_forbidden_command_can_cause_an_error()
     ensures viewport { seen (codes "script 1\nhandler h\nviewport 700px 600px\nend\nblock r top\nappend top r\nro o top h\nro-observe o r content\ntick 0\n")
         ≡ record { moving = []; disturbing = 3 ∷ []; depths = (1 ∷ []) ∷ []; errors = 1 } }
@@ -25,25 +25,25 @@ pub fn each_forbidden_command_can_cause_an_error()
         ≡ record { moving = 3 ∷ []; disturbing = 3 ∷ []; depths = (1 ∷ []) ∷ []; errors = 1 } }
 {}
 
-/// Two handlers that move each other's target, each round as deep as the one before: one of them in a `when`.
+/// Two handlers that move each other's target, one of them in a `when`, so that rounds don't go deeper.
 pub fn depths_of_an_unsteady_script_fall()
     ensures { seen (codes "script 1\nhandler ha\nwhen not taller x 12px\ngrow x height 1px\nremove y\nend\nend\nhandler hb\nappend z y\nend\nblock r top\nappend top r\nblock x top\nset x height 10px\nappend r x\nblock z top\nappend r z\nblock y top\nset y height 10px\nappend z y\nro a top ha\nro-observe a x content\nro b top hb\nro-observe b y content\ntick 0\n")
         ≡ record { moving = 5 ∷ 9 ∷ []; disturbing = 4 ∷ 5 ∷ 9 ∷ []; depths = (1 ∷ 1 ∷ 1 ∷ 2 ∷ []) ∷ []; errors = 0 } }
 {}
 
-/// A steady script that isn't quiet: rounds go deeper, and an error comes.
+/// A steady script that isn't quiet: rounds go deeper, and the error is fired.
 pub fn a_steady_script_can_have_an_error()
     ensures { seen (codes "script 1\nhandler more\ngrow c height 1px\nend\nblock r top\nappend top r\nblock p top\nappend r p\nblock c top\nset c height 10px\nappend p c\nro o top more\nro-observe o p content\nro-observe o c content\ntick 0\ntick 16\n")
         ≡ record { moving = []; disturbing = 3 ∷ []; depths = (2 ∷ 3 ∷ []) ∷ (2 ∷ 3 ∷ []) ∷ []; errors = 2 } }
 {}
 
-/// A script that isn't quiet and has no error: the certificate isn't needed for it.
+/// A script that isn't quiet and has no error: the certificate is sufficient, not necessary.
 pub fn a_script_without_an_error_can_be_unquiet()
     ensures { seen (codes "script 1\nhandler ha\nset c height 20px\nend\nhandler hb\nset c height 10px\nend\nblock r top\nappend top r\nblock p top\nappend r p\nblock c top\nset c height 10px\nappend p c\nro a top ha\nro-observe a p content\nro b top hb\nro-observe b c content\ntick 0\n")
         ≡ record { moving = []; disturbing = 3 ∷ 6 ∷ []; depths = (2 ∷ 3 ∷ []) ∷ []; errors = 0 } }
 {}
 
-/// A quiet script, in which an `ro` of a handler names another one.
+/// A quiet script, in which an `ro` in one handler names another handler.
 pub fn a_quiet_script_has_no_error()
     ensures { seen (codes "script 1\nhandler show\nblock b top\nro n top again\nread $target\nend\nhandler again\nsay more\nend\nblock r top\nappend top r\nro o top show\nro-observe o r content\ntick 0\ntick 16\n")
         ≡ record { moving = []; disturbing = []; depths = (1 ∷ []) ∷ [] ∷ []; errors = 0 } }

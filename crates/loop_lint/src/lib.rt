@@ -1,4 +1,5 @@
-//! Certificates of scripts: what the handlers of resize observers may hold so that resize loops end soon, or never with an error.
+//! Static certificates for scripts: which commands the handlers of resize observers may contain so that resize loops always go deeper, or
+//! never end with an error.
 #![tactic(auto, unfolding(crate::specs::Examples::seen))]
 
 mod check;

@@ -1,4 +1,4 @@
-//! A search through commands at any nesting, in the order of their lines.
+//! Searching commands at any nesting, in the order of their lines.
 
 ghost use Rattle.std.specs.Prelude.{◌≡◌, slice_get};
 ghost use Rattle.script_model.specs.Syntax.{Action};
@@ -11,7 +11,7 @@ use crate::kinds::Law;
 use script_syntax::{Action, Command, Item, What};
 use text_io::Name;
 
-/// What is looked for.
+/// What to search for.
 #[derive(Clone, Copy)]
 pub enum Sought {
     /// An `ro` that names this handler.
@@ -49,7 +49,7 @@ fn is_forbidden(action: &Action, law: Law) -> bool
     }
 }
 
-/// Whether a command without a block is what is looked for.
+/// Whether a command without a block is what is searched for.
 fn is_sought(action: &Action, sought: &Sought) -> bool
     ensures { result ≡ is_sought sought.now (action_of action.now) }
 {
@@ -59,7 +59,7 @@ fn is_sought(action: &Action, sought: &Sought) -> bool
     }
 }
 
-/// The line of the first command that is looked for, among a command and those in its block.
+/// Returns the line of the first match among a command and those in its block.
 #[cycle(walk)]
 pub fn first_in_command(command: &Command, sought: &Sought) -> Option<u32>
     ensures { result ≡ slice_get (lines_in (is_sought sought.now) (command_of command.now)) 0 }
@@ -71,7 +71,7 @@ pub fn first_in_command(command: &Command, sought: &Sought) -> Option<u32>
     }
 }
 
-/// The line of the first command that is looked for, among these commands and those in their blocks.
+/// Returns the line of the first match among these commands and those in their blocks.
 #[cycle(walk)]
 pub fn first_in(commands: &[Command], sought: &Sought) -> Option<u32>
     ensures { result ≡ slice_get (block_lines (is_sought sought.now) (block_of commands.now)) 0 }
@@ -85,7 +85,7 @@ pub fn first_in(commands: &[Command], sought: &Sought) -> Option<u32>
     None
 }
 
-/// The line of the first command that is looked for, in an item.
+/// Returns the line of the first match in an item.
 pub fn first_in_item(item: &Item, sought: &Sought) -> Option<u32>
     ensures { result ≡ slice_get (item_lines (is_sought sought.now) (item_of item.now)) 0 }
 {

@@ -1,17 +1,17 @@
-//! Readers of single bytes and words.
+//! Parsers for single bytes and words. Each returns the rest of the text.
 
 ghost use Rattle.std.specs.Prelude.{◌≡◌};
 ghost use Rattle.script_model.specs.Media.{byte_at, word_at, is_blank, skip, gap_at, colon_at};
 ghost use Rattle.media_queries.specs.Seen.{rest_of};
 
-/// Where a reader found no byte that goes on.
+/// Where a parser met a byte that it can't accept, or the end of the text.
 #[derive(Clone, Copy)]
 pub struct Stopped {
-    /// The number of bytes that are left there; 0 is the end of the text.
+    /// The number of bytes left from there; 0 at the end of the text.
     pub left: usize,
 }
 
-/// What stands behind this byte.
+/// Parses this byte.
 #[tactic(auto, unfolding(script_model::specs::Media::byte_at))]
 pub fn byte_at(byte: u8, text: &[u8]) -> Result<&[u8], Stopped>
     ensures { rest_of result ≡ byte_at byte text.now }
@@ -28,7 +28,7 @@ pub fn byte_at(byte: u8, text: &[u8]) -> Result<&[u8], Stopped>
     }
 }
 
-/// What stands behind this word.
+/// Parses this word.
 #[tactic(auto, using(crate::proofs::Words::word_on, crate::proofs::Words::word_stops, crate::proofs::Words::word_ends))]
 pub fn word_at<'a>(word: &[u8], text: &'a [u8]) -> Result<&'a [u8], Stopped>
     ensures { rest_of result ≡ word_at word.now text.now }
@@ -46,7 +46,7 @@ fn is_blank(byte: u8) -> bool
     byte == b' ' || byte == b'\t'
 }
 
-/// What stands behind zero or more spaces and tabs.
+/// Skips zero or more spaces and tabs.
 #[tactic(auto, using(crate::proofs::Words::skip_on))]
 pub fn skip(text: &[u8]) -> &[u8]
     ensures { result.now ≡ skip text.now }
@@ -59,7 +59,7 @@ pub fn skip(text: &[u8]) -> &[u8]
     &[]
 }
 
-/// What stands behind one or more spaces and tabs.
+/// Parses one or more spaces and tabs.
 #[tactic(auto, unfolding(script_model::specs::Media::gap_at))]
 pub fn gap_at(text: &[u8]) -> Result<&[u8], Stopped>
     ensures { rest_of result ≡ gap_at text.now }
@@ -76,7 +76,7 @@ pub fn gap_at(text: &[u8]) -> Result<&[u8], Stopped>
     }
 }
 
-/// What stands behind a `:` with the space around it.
+/// Parses a `:` with optional spaces and tabs around it.
 #[tactic(auto, unfolding(script_model::specs::Media::colon_at))]
 pub fn colon_at(text: &[u8]) -> Result<&[u8], Stopped>
     ensures { rest_of result ≡ colon_at text.now }

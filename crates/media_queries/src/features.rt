@@ -1,4 +1,4 @@
-//! Media features and their readers (Media Queries 4, 2.4, 4.1, 4.2 and 4.4).
+//! Media features and their parsers (Media Queries 4, 2.4, 4.1, 4.2 and 4.4).
 
 ghost use Rattle.std.specs.Prelude.{◌≡◌};
 ghost use Rattle.script_model.specs.Media.{dimension_at, sized_at, bounded_at, oriented_at, tested_at, feature_at};
@@ -30,7 +30,7 @@ pub enum Orientation {
     Landscape,
 }
 
-/// One test of a viewport.
+/// A media feature, which tests the viewport.
 #[derive(Clone, Copy)]
 pub enum Feature {
     /// The length is in units of 1/64 CSS pixel.
@@ -58,7 +58,7 @@ fn sized_at(compared: Comparison, text: &[u8]) -> Result<(Feature, &[u8]), Stopp
     Ok((Feature::Sized(dimension, compared, units), rest))
 }
 
-/// `min-` or `max-` before a dimension.
+/// Parses `min-` or `max-` before a dimension, and the value.
 #[tactic(auto, unfolding(script_model::specs::Media::bounded_at))]
 fn bounded_at(text: &[u8]) -> Result<(Feature, &[u8]), Stopped>
     ensures { read_of feature_of result ≡ bounded_at text.now }
@@ -101,7 +101,7 @@ fn tested_at(text: &[u8]) -> Result<(Feature, &[u8]), Stopped>
     sized_at(Comparison::Exactly, text)
 }
 
-/// A feature in its parentheses.
+/// Parses a feature in parentheses.
 #[tactic(auto, unfolding(script_model::specs::Media::feature_at))]
 pub fn feature_at(text: &[u8]) -> Result<(Feature, &[u8]), Stopped>
     ensures { read_of feature_of result ≡ feature_at text.now }

@@ -1,4 +1,4 @@
-//! Readers of lengths. A digit with which the number would be above the largest one stands in no length.
+//! Parsers for lengths. A digit that would make the number exceed its bound isn't accepted.
 
 ghost use Rattle.std.specs.Prelude.{◌≡◌, ◌≤◌, if◌then◌else◌, Some, None, IfSome, IfOk};
 ghost use Rattle.script_model.specs.Media.{with_digit, is_digit_under, digit_at, digits_at, whole_at, hundredths_at, fraction_at, length_at};
@@ -7,7 +7,7 @@ ghost use Rattle.media_queries.specs.Seen.{read_of};
 use crate::bytes::{Stopped, byte_at, word_at};
 use word_model::{begins_with, is_digit};
 
-/// The number with this digit behind it, none where the byte is no digit or the number would be above the largest.
+/// Returns the number with this digit appended, or `None` if the byte isn't a digit or the number would exceed `most`.
 fn with_digit(most: u64, value: u64, byte: u8) -> Option<u64>
     requires largest { most ≤ 100000000 }
     requires value { value ≤ most }
@@ -24,7 +24,7 @@ fn with_digit(most: u64, value: u64, byte: u8) -> Option<u64>
     Some(number)
 }
 
-/// The number that this one gives with one more digit.
+/// Parses one more digit of a number.
 #[tactic(auto, unfolding(script_model::specs::Media::digit_at))]
 fn digit_at(most: u64, value: u64, text: &[u8]) -> Result<(u64, &[u8]), Stopped>
     requires largest { most ≤ 100000000 }
@@ -41,7 +41,7 @@ fn digit_at(most: u64, value: u64, text: &[u8]) -> Result<(u64, &[u8]), Stopped>
     }
 }
 
-/// The number that this one gives with up to `places` more digits, and what stands behind them.
+/// Parses up to `places` more digits of a number, and returns it with the rest of the text.
 #[tactic(auto, using(crate::proofs::Digits::digits_on, crate::proofs::Digits::digits_stop, crate::proofs::Digits::digits_end))]
 fn digits_at(places: usize, most: u64, first: u64, text: &[u8]) -> (u64, &[u8])
     requires largest { most ≤ 100000000 }
@@ -63,7 +63,7 @@ fn digits_at(places: usize, most: u64, first: u64, text: &[u8]) -> (u64, &[u8])
     (value, rest)
 }
 
-/// 1 to 7 digits, at most 1,000,000.
+/// Parses 1 to 7 digits, at most 1,000,000.
 #[tactic(auto, unfolding(script_model::specs::Media::whole_at))]
 fn whole_at(text: &[u8]) -> Result<(u64, &[u8]), Stopped>
     ensures value { read_of (λ number. number) result ≡ whole_at text.now }
@@ -73,7 +73,7 @@ fn whole_at(text: &[u8]) -> Result<(u64, &[u8]), Stopped>
     Ok(digits_at(6, 1_000_000, first, rest))
 }
 
-/// The hundredths that tenths are, with the digit that may follow.
+/// Parses an optional second decimal digit after tenths, and returns the hundredths.
 #[tactic(auto, unfolding(script_model::specs::Media::hundredths_at))]
 fn hundredths_at(tenths: u64, text: &[u8]) -> (u64, &[u8])
     requires { tenths ≤ 10000000 }
@@ -89,7 +89,7 @@ fn hundredths_at(tenths: u64, text: &[u8]) -> (u64, &[u8])
     }
 }
 
-/// Hundredths: the whole part, and optionally a point and 1 or 2 digits.
+/// Parses an optional point with 1 or 2 digits after the whole part, and returns the hundredths.
 #[tactic(auto, unfolding(script_model::specs::Media::fraction_at))]
 fn fraction_at(whole: u64, text: &[u8]) -> Result<(u64, &[u8]), Stopped>
     requires { whole ≤ 1000000 }
@@ -104,7 +104,7 @@ fn fraction_at(whole: u64, text: &[u8]) -> Result<(u64, &[u8]), Stopped>
     Ok(hundredths_at(tenths, behind))
 }
 
-/// A length in units of 1/64 CSS pixel, cut to units.
+/// Parses a length into units of 1/64 CSS pixel, truncated.
 #[tactic(auto, unfolding(script_model::specs::Media::length_at))]
 pub fn length_at(text: &[u8]) -> Result<(u64, &[u8]), Stopped>
     ensures { read_of (λ number. number) result ≡ length_at text.now }

@@ -1,5 +1,5 @@
-//! Media query lists: their text, and which viewports they match (Media Queries 4, 2 to 4; the grammar is a part of the
-//! standard's, without nesting, `<` and `>`).
+//! Media query lists: parsing, printing, and matching against a viewport (Media Queries 4, 2 to 4). The grammar is a subset of the
+//! standard's, without nesting, `<` and `>`.
 #![tactic(auto)]
 
 ghost use Rattle.std.specs.Prelude.{◌≡◌, ◌++◌, ◌<◌, length, unsigned_abs, IfOk, OnOk, OnErr};
@@ -38,11 +38,11 @@ impl Model for Query {
     ghost view = { λ query. map query_of query.queries.items };
 }
 
-/// Why a text gives no list.
+/// Why a text couldn't be parsed.
 #[derive(Debug, Drop, Error)]
 pub enum QueryFault {
-    /// The column of the first byte with which the text so far begins no list, from 1; one past the end of the text
-    /// where the whole text begins a longer list.
+    /// The text isn't a media query list. The column, from 1, is that of the first byte with which the text is no longer the
+    /// beginning of a list, or one past the end if the whole text is only the beginning of a list.
     #[error("column {column}: not a media query list")]
     BadQuery { column: u32 },
     #[error("out of memory")]
@@ -50,11 +50,11 @@ pub enum QueryFault {
 }
 
 impl Query {
-    /// The list that the text is (Media Queries 4, 3).
+    /// Parses a media query list (Media Queries 4, 3). A length has 1 to 7 digits, optionally a point and 1 or 2 digits,
+    /// then `px`; it is at most 1,000,000 CSS pixels and is truncated to units of 1/64 CSS pixel.
     ///
-    /// `BadQuery` exactly where it is none, with the first byte with which the text so far begins no list. A length
-    /// has 1 to 7 digits, optionally a point and 1 or 2 digits, and `px`; it is at most 1,000,000 CSS pixels and is cut
-    /// to units of 1/64 CSS pixel.
+    /// # Errors
+    /// `BadQuery` where the text isn't a list, with the column of its fault; `Memory` if an allocation fails.
     #[tactic(auto, unfolding(script_model::specs::Media::query_list))]
     pub fn parse(alloc: Global, text: &[u8]) -> Result<Query, QueryFault>
         requires { length text.now < 4294967295 }
@@ -70,8 +70,8 @@ impl Query {
         }
     }
 
-    /// Whether the list matches a viewport of this size, in units of 1/64 CSS pixel from 0 up (Media Queries 4, 2.1,
-    /// 4.1, 4.2 and 4.4): one of its queries does. The viewport is portrait exactly if its height is at least its width.
+    /// Whether the list matches a viewport of this size, in units of 1/64 CSS pixel, not negative (Media Queries 4, 2.1,
+    /// 4.1, 4.2 and 4.4): it does if any of its queries does. The viewport is portrait exactly if its height is at least its width.
     #[tactic(auto, using(crate::proofs::Comparisons::list_seen))]
     pub fn matches(&self, viewport: Size) -> bool
         ensures { result ≡ matches self.now (unsigned_abs viewport.width) (unsigned_abs viewport.height) }
@@ -81,9 +81,9 @@ impl Query {
         matching::any_query_matches(self.queries.as_slice(), width, height)
     }
 
-    /// Appends the text of the list: one space for each gap and no other, and each length as the shortest text that is
-    /// read as it, the first of these in byte order. What was appended is read as an equal list, and no text that is read
-    /// so is shorter. Where memory is refused, nothing is appended.
+    /// Appends the text of the list, with one space for each mandatory gap and no other, and each length as the shortest text
+    /// that parses as it, the first of these in byte order. The appended text parses as an equal list, and no text that does is
+    /// shorter. If an allocation fails, nothing is appended.
     pub fn push_text(&self, into: &mut Vec<u8>) -> Result<(), AllocError>
         ensures ok { OnOk result (into.new.items ≡ into.old.items ++ list_text self.now) }
         ensures err { OnErr result (into.new.items ≡ into.old.items) }
@@ -96,7 +96,7 @@ impl Query {
         pushed
     }
 
-    /// An equal list. The error is want of memory.
+    /// Returns an equal list. Fails only if an allocation fails.
     pub fn copy(&self, alloc: Global) -> Result<Query, AllocError>
         ensures { IfOk result (λ copy. copy ≡ self.now) }
     {

@@ -63,7 +63,7 @@ fn medium_matches(medium: MediaType) -> bool
     !matches!(medium, MediaType::Print)
 }
 
-/// `not` negates a query, `only` has no effect.
+/// Applies the prefix of a query to its result: `not` negates it, `only` has no effect.
 fn turned(before: Prefix, holds: bool) -> bool
     ensures { result ≡ turned (prefix_of before) holds }
 {

@@ -1,4 +1,4 @@
-//! Media queries and their readers (Media Queries 4, 2 and 3).
+//! Media queries and their parsers (Media Queries 4, 2 and 3).
 
 ghost use Rattle.std.specs.Prelude.{◌≡◌, map, IfOk};
 ghost use Rattle.script_model.specs.Media.{medium_at, query_ends, joined_at, others_at, typed_at, all_at, any_at, features_from, condition_at, not_feature_at, not_at, only_at, query_at, queries_at};
@@ -16,7 +16,7 @@ pub enum MediaType {
     Print,
 }
 
-/// What stands before a media type.
+/// The word before a media type, if any.
 #[derive(Clone, Copy)]
 pub enum Prefix {
     Absent,
@@ -26,7 +26,7 @@ pub enum Prefix {
 
 #[derive(Drop)]
 pub enum MediaQuery {
-    /// A media type, and features joined to it by `and`.
+    /// A media type, with features joined to it by `and`.
     Typed(Prefix, MediaType, Vec<Feature>),
     /// `not` before a feature.
     NotFeature(Feature),
@@ -36,7 +36,7 @@ pub enum MediaQuery {
     Either(Feature, Feature, Vec<Feature>),
 }
 
-/// Why a reader that takes memory gave no value.
+/// Why a parser that allocates failed.
 #[derive(Clone, Copy)]
 pub enum ReadFault {
     At(Stopped),
@@ -89,7 +89,7 @@ fn medium_at(text: &[u8]) -> Result<(MediaType, &[u8]), Stopped>
     Ok((MediaType::Print, word_at(b"print", text)?))
 }
 
-/// Whether the text or a comma ends the query here.
+/// Whether the query ends here: at the end of the text or before a comma.
 #[tactic(auto, unfolding(script_model::specs::Media::query_ends))]
 fn query_ends(text: &[u8]) -> bool
     ensures { result ≡ query_ends text.now }
@@ -97,7 +97,7 @@ fn query_ends(text: &[u8]) -> bool
     text.is_empty() || begins_with(skip(text), b',')
 }
 
-/// `and` or `or` with the gaps around it, and a feature.
+/// Parses this word, `and` or `or`, with gaps around it, and a feature.
 #[tactic(auto, unfolding(script_model::specs::Media::joined_at))]
 fn joined_at<'a>(joint: &[u8], text: &'a [u8]) -> Result<(Feature, &'a [u8]), Stopped>
     ensures { read_of feature_of result ≡ joined_at joint.now text.now }
@@ -107,7 +107,7 @@ fn joined_at<'a>(joint: &[u8], text: &'a [u8]) -> Result<(Feature, &'a [u8]), St
     feature_at(gap_at(rest)?)
 }
 
-/// The features that are so joined, up to the end of the query.
+/// Parses all features joined by this word, up to the end of the query.
 #[tactic(auto, using(crate::proofs::Joined::none_behind))]
 fn others_at<'a>(
     alloc: Global,
@@ -152,7 +152,7 @@ fn any_at(alloc: Global, first: Feature, text: &[u8]) -> Result<(MediaQuery, &[u
     Ok((MediaQuery::Either(first, second, others), rest))
 }
 
-/// The byte behind the gap tells whether features are joined by `or`.
+/// Parses what follows the first feature; the byte after the gap tells whether features are joined by `or`.
 #[tactic(auto, unfolding(script_model::specs::Media::features_from))]
 fn features_from(
     alloc: Global,
@@ -222,7 +222,7 @@ fn query_at(alloc: Global, text: &[u8]) -> Result<(MediaQuery, &[u8]), ReadFault
     typed_at(alloc, Prefix::Absent, text)
 }
 
-/// The query behind a comma with the space around it.
+/// Parses a comma, with optional spaces and tabs around it, and a query.
 fn next_query(alloc: Global, text: &[u8]) -> Result<(MediaQuery, &[u8]), ReadFault>
     ensures { Reads query_of result (next_of text.now) }
 {
@@ -230,7 +230,7 @@ fn next_query(alloc: Global, text: &[u8]) -> Result<(MediaQuery, &[u8]), ReadFau
     query_at(alloc, skip(rest))
 }
 
-/// The queries of a whole text.
+/// Parses a whole text as a list of queries.
 #[tactic(auto, using(crate::proofs::Lists::list_first, crate::proofs::Lists::first_fails))]
 pub fn queries_at(alloc: Global, text: &[u8]) -> Result<Vec<MediaQuery>, ReadFault>
     ensures { ReadsAll (λ queries. map query_of queries.items) result (queries_at text.now) }
@@ -247,7 +247,7 @@ pub fn queries_at(alloc: Global, text: &[u8]) -> Result<Vec<MediaQuery>, ReadFau
     Ok(queries)
 }
 
-/// An equal query.
+/// Returns an equal query.
 fn copy_query(alloc: Global, query: &MediaQuery) -> Result<MediaQuery, AllocError>
     ensures { IfOk result (λ copy. query_of copy ≡ query_of query.now) }
 {
@@ -268,7 +268,7 @@ fn copy_query(alloc: Global, query: &MediaQuery) -> Result<MediaQuery, AllocErro
     }
 }
 
-/// Equal queries.
+/// Returns equal queries.
 #[tactic(auto, using(crate::proofs::Copies::copy_on, crate::proofs::Copies::copy_ends))]
 pub fn copy_queries(alloc: Global, queries: &[MediaQuery]) -> Result<Vec<MediaQuery>, AllocError>
     ensures { IfOk result (λ copy. map query_of copy.items ≡ map query_of queries.now) }

@@ -1,5 +1,5 @@
-//! The text of media query lists: one space for each gap and no other, and each length as its shortest text. Where memory
-//! is refused, what stood in the buffer still begins it.
+//! Printing of media query lists: one space for each mandatory gap and no other, and each length as its shortest text. If an
+//! allocation fails, the previous contents of the buffer are kept, but something may have been appended.
 
 ghost use Rattle.std.specs.Prelude.{◌≡◌, ℕ, ◌++◌, map, OnOk, codes};
 ghost use Rattle.script_model.specs.Queries.{Typed, NotFeature, AllFeatures, AnyFeatures};
@@ -13,7 +13,7 @@ use crate::queries::{MediaQuery, MediaType, Prefix};
 use std::alloc::AllocError;
 use word_model::push_decimal;
 
-/// Appends so many tenths of a pixel.
+/// Appends a length given in tenths of a pixel.
 #[tactic(auto, using(crate::proofs::Appends::tenths_pushed, crate::proofs::Appends::keeps_more))]
 fn push_tenths(out: &mut Vec<u8>, tenths: u128) -> Result<(), AllocError>
     ensures ok { OnOk result (out.new.items ≡ out.old.items ++ tenths_text tenths) }
@@ -23,7 +23,7 @@ fn push_tenths(out: &mut Vec<u8>, tenths: u128) -> Result<(), AllocError>
     out.extend_from_slice(&[b'.', b'0' + (tenths % 10) as u8, b'p', b'x'])
 }
 
-/// Appends so many hundredths of a pixel.
+/// Appends a length given in hundredths of a pixel.
 #[tactic(auto, using(crate::proofs::Appends::hundredths_pushed, crate::proofs::Appends::keeps_more))]
 fn push_hundredths(out: &mut Vec<u8>, hundredths: u128) -> Result<(), AllocError>
     ensures ok { OnOk result (out.new.items ≡ out.old.items ++ hundredths_text hundredths) }
@@ -45,8 +45,8 @@ fn push_whole(out: &mut Vec<u8>, pixels: u128) -> Result<(), AllocError>
     out.extend_from_slice(b"px")
 }
 
-/// Appends a length in units of 1/64 CSS pixel, as the shortest text that is read as it, the first of these in byte order. Where
-/// memory is refused, what stood there still begins the text.
+/// Appends a length given in units of 1/64 CSS pixel, as the shortest text that parses as it, the first of these in byte order. If an
+/// allocation fails, the previous contents are kept, but something may have been appended.
 #[tactic(auto, unfolding(crate::specs::LengthText::length_text))]
 pub fn push_length(out: &mut Vec<u8>, length: u64) -> Result<(), AllocError>
     ensures ok { OnOk result (out.new.items ≡ out.old.items ++ length_text length) }
@@ -63,7 +63,7 @@ pub fn push_length(out: &mut Vec<u8>, length: u64) -> Result<(), AllocError>
     push_hundredths(out, (units * 100 + 63) / 64)
 }
 
-/// What stands before the length of a feature.
+/// Returns the text before the length of a feature.
 #[tactic(auto, unfolding(crate::specs::QueryText::feature_text))]
 fn sized_name(dimension: Dimension, compared: Comparison) -> &'static [u8]
     ensures { (units : ℕ) → feature_text (sized_of (comparison_of compared) dimension units) ≡ result.now ++ (length_text units ++ codes ")") }
@@ -94,7 +94,7 @@ fn push_sized(
     Ok(())
 }
 
-/// The text of a feature that asks for an orientation.
+/// Returns the text of an `orientation` feature.
 #[tactic(auto, unfolding(crate::specs::QueryText::feature_text))]
 fn oriented_text(orientation: Orientation) -> &'static [u8]
     ensures { result.now ≡ feature_text (orientation_of orientation) }
@@ -116,7 +116,7 @@ fn push_feature(out: &mut Vec<u8>, feature: Feature) -> Result<(), AllocError>
     }
 }
 
-/// Appends this word with the gaps around it.
+/// Appends this word with a space before and after it.
 #[tactic(auto, using(crate::proofs::Appends::three_parts, crate::proofs::Appends::keeps_more, crate::proofs::Appends::keeps_on))]
 fn push_joint(out: &mut Vec<u8>, joint: &[u8]) -> Result<(), AllocError>
     ensures ok { OnOk result (out.new.items ≡ out.old.items ++ (codes " " ++ (joint.now ++ codes " "))) }
@@ -128,7 +128,7 @@ fn push_joint(out: &mut Vec<u8>, joint: &[u8]) -> Result<(), AllocError>
     Ok(())
 }
 
-/// Appends features behind this word.
+/// Appends features, each after this word.
 #[tactic(auto, using(crate::proofs::Appends::keeps_same, crate::proofs::Appends::keeps_on))]
 fn push_joined(out: &mut Vec<u8>, joint: &[u8], features: &[Feature]) -> Result<(), AllocError>
     ensures ok { OnOk result (out.new.items ≡ out.old.items ++ joined_text joint.now (map feature_of features.now)) }
@@ -226,7 +226,7 @@ fn push_query(out: &mut Vec<u8>, query: &MediaQuery) -> Result<(), AllocError>
     }
 }
 
-/// Appends a comma before each query.
+/// Appends queries, each after a comma.
 #[tactic(auto, using(crate::proofs::Appends::keeps_same, crate::proofs::Appends::keeps_more, crate::proofs::Appends::keeps_on))]
 fn push_others(out: &mut Vec<u8>, queries: &[MediaQuery]) -> Result<(), AllocError>
     ensures ok { OnOk result (out.new.items ≡ out.old.items ++ commas_text (map query_of queries.now)) }
@@ -239,7 +239,7 @@ fn push_others(out: &mut Vec<u8>, queries: &[MediaQuery]) -> Result<(), AllocErr
     Ok(())
 }
 
-/// Appends the queries with a comma between each two.
+/// Appends the queries, separated by commas.
 #[tactic(auto, using(crate::proofs::Appends::keeps_same, crate::proofs::Appends::keeps_on))]
 pub fn push_queries(out: &mut Vec<u8>, queries: &[MediaQuery]) -> Result<(), AllocError>
     ensures ok { OnOk result (out.new.items ≡ out.old.items ++ list_text (map query_of queries.now)) }

@@ -1,9 +1,9 @@
-//! Texts that are refused, and what single commands throw, show and meet.
+//! Texts with a fault, and exceptions and results of single commands.
 
 ghost use Rattle.std.specs.Prelude.{◌≡◌, ◌++◌, codes};
 ghost use Rattle.page_model.specs.Outcome.{trace};
 
-/// A script has a first line.
+/// A script must have a first line.
 pub fn an_empty_text_is_refused()
     ensures { trace (
         codes ""
@@ -12,7 +12,7 @@ pub fn an_empty_text_is_refused()
         ) }
 {}
 
-/// Where a word is missing, the fault is after the line's last one.
+/// If a word is missing, the fault is at the column after the line's last one.
 pub fn a_missing_word_is_after_the_last()
     ensures { trace (
         codes "script 1\nblock r top\nappend top r\nro o top -\nro-observe o"
@@ -21,7 +21,7 @@ pub fn a_missing_word_is_after_the_last()
         ) }
 {}
 
-/// A length has its unit.
+/// A length must have its unit.
 pub fn a_length_in_a_condition()
     ensures { trace (
         codes "script 1\nwhen wider a 5\n"
@@ -30,7 +30,7 @@ pub fn a_length_in_a_condition()
         ) }
 {}
 
-/// In a query the fault is at the first byte that nothing continues.
+/// In a media query the fault is at the first byte with which the text is no longer the beginning of a query.
 pub fn a_length_in_a_query()
     ensures { trace (
         codes "script 1\nmedia m top (width: 5)\n"
@@ -39,7 +39,7 @@ pub fn a_length_in_a_query()
         ) }
 {}
 
-/// Only known properties are set.
+/// Only known properties can be set.
 pub fn an_unknown_property()
     ensures { trace (
         codes "script 1\nset a colour red\n"
@@ -48,7 +48,7 @@ pub fn an_unknown_property()
         ) }
 {}
 
-/// A tick stands outside handlers.
+/// A `tick` can't appear in a handler.
 pub fn a_tick_in_a_handler()
     ensures { trace (
         codes "script 1\nhandler h\ntick 0\nend\n"
@@ -57,7 +57,7 @@ pub fn a_tick_in_a_handler()
         ) }
 {}
 
-/// A handler that is open at the end is a fault after the last line.
+/// A handler that is still open at the end is a fault after the last line.
 pub fn a_handler_left_open()
     ensures { trace (
         codes "script 1\nhandler h\n"
@@ -66,7 +66,8 @@ pub fn a_handler_left_open()
         ) }
 {}
 
-/// An element is put neither into itself nor before what is no sibling, and names have to be there and free.
+/// An element can be inserted neither into itself nor before a node that isn't a child there; names that are used must exist, and new ones
+/// must be free.
 pub fn exceptions_of_the_tree()
     ensures { trace (
         codes "script 1\nblock a top\nblock b top\nappend a b\nappend b a\nblock c top\n"
@@ -77,7 +78,7 @@ pub fn exceptions_of_the_tree()
         ) }
 {}
 
-/// A name of another kind of thing is no operand.
+/// A name of another kind of thing isn't a valid operand.
 pub fn exceptions_of_the_tree_and_of_names()
     ensures { trace (
         codes "script 1\nblock a top\nblock b top\nappend a b\nappend b a\nblock c top\n"
@@ -88,7 +89,7 @@ pub fn exceptions_of_the_tree_and_of_names()
         ) }
 {}
 
-/// Percentages are of the containing width, and of its height where that is definite; `border-box` counts borders and
+/// Percentages are relative to the width of the containing block, and to its height if that is definite; `border-box` includes borders and
 /// paddings.
 pub fn percentages_and_border_box_sizing()
     ensures { trace (

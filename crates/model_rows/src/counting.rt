@@ -5,7 +5,7 @@ ghost use Rattle.script_model.specs.Generator.{generated};
 ghost use Rattle.page_model.specs.Outcome.{trace, check_text, summary_of};
 ghost use Rattle.model_rows.specs.Texts.{deep_page};
 
-/// A check counts the commands, ticks among them.
+/// A check counts the commands, including ticks.
 pub fn commands_are_counted_by_a_check()
     ensures { check_text (
         codes "script 1\nblock r top\nappend top r\nro o top -\nro-observe o r content\n"
@@ -24,7 +24,7 @@ pub fn commands_of_blocks_are_counted()
         ) }
 {}
 
-/// A check of a text that is refused gives the fault.
+/// A check of a text that isn't a script gives its fault.
 pub fn a_check_of_an_empty_text()
     ensures { check_text (codes "") ≡ codes "syntax 1 1\n" }
 {}
@@ -41,7 +41,7 @@ pub fn lines_are_counted_by_a_summary()
         ) }
 {}
 
-/// A list of 20 cards whose images are loaded as they come near the view: 20 first entries, and then one for each image
+/// A list of 20 cards whose images are loaded as they come near the viewport: 20 initial entries, and then one for each image
 /// of the cards 9 to 18 and of the last one.
 pub fn cards_are_loaded_as_they_come_near()
     ensures { summary_of (generated 19) ≡ (
@@ -50,7 +50,7 @@ pub fn cards_are_loaded_as_they_come_near()
         ) }
 {}
 
-/// A tree has 256 levels at most, and the widest block has the largest length.
+/// A tree has at most 256 levels, and no block is wider than the largest length.
 pub fn a_tree_has_a_limit_of_levels()
     ensures { trace (deep_page ++ codes "read e256\nblock e257 top\nappend e256 e257\n") ≡ (
         codes "read e256 0 0 33554431.984375 0 0 0\nlimit depth 772 256\n"

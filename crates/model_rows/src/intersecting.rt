@@ -1,9 +1,9 @@
-//! Intersection observers: what is found, and when an observer is notified (Intersection Observer, 3.2).
+//! Intersection observers: intersections, and when an observer is notified (Intersection Observer, 3.2).
 
 ghost use Rattle.std.specs.Prelude.{◌≡◌, ◌++◌, codes};
 ghost use Rattle.page_model.specs.Outcome.{trace};
 
-/// An edge in common is enough to intersect, and a unit less is not.
+/// Sharing an edge is enough to intersect; a gap of one unit isn't.
 pub fn an_edge_in_common_intersects()
     ensures { trace (
         codes "script 1\nblock r top\nappend top r\nblock s top\nset s height 600px\n"
@@ -17,7 +17,7 @@ pub fn an_edge_in_common_intersects()
         ) }
 {}
 
-/// A scroll container clips at its padding box, and what is in it moves as it is scrolled.
+/// A scroll container clips at its padding box, and its contents move as it is scrolled.
 pub fn a_scroll_container_clips()
     ensures { trace (
         codes "script 1\nblock r top\nappend top r\nblock s top\nset s height 100px\n"
@@ -33,8 +33,8 @@ pub fn a_scroll_container_clips()
         ) }
 {}
 
-/// Margins have units, thresholds lie between 0 and 1, a margin's percentages are of the root's width, and a root is no
-/// target of its own.
+/// Margins must have units, and thresholds must be between 0 and 1; a margin's percentages are relative to the root's width, and a root isn't
+/// a target of its own observer.
 pub fn margins_and_thresholds_of_observers()
     ensures { trace (
         codes "script 1\nblock r top\nappend top r\nset r height 100px\n"
@@ -49,7 +49,8 @@ pub fn margins_and_thresholds_of_observers()
         ) }
 {}
 
-/// A ratio is compared with the thresholds as it is, so a target seen by a little less than half has passed the half.
+/// A ratio is compared with the thresholds without rounding, so a target that becomes visible by slightly less than half has crossed the
+/// threshold 0.5.
 pub fn a_ratio_is_not_rounded()
     ensures { trace (
         codes "script 1\nblock r top\nappend top r\nblock s top\nset s height 590px\n"
@@ -65,7 +66,7 @@ pub fn a_ratio_is_not_rounded()
         ) }
 {}
 
-/// An observer is notified while its root stands in the document, and its queue stays until then.
+/// An observer is only notified while its root is in the document; its queue is kept until then.
 pub fn a_root_that_was_removed_is_not_notified()
     ensures { trace (
         codes "script 1\nhandler ha\nremove q\nend\nblock r top\nappend top r\n"
@@ -94,7 +95,7 @@ pub fn taking_a_queue_before_it_is_notified()
         ) }
 {}
 
-/// The viewport of a nested document clips what is in it.
+/// The viewport of a nested document clips its contents.
 pub fn a_nested_viewport_clips()
     ensures { trace (
         codes "script 1\nblock r top\nappend top r\nframe f top kid\nappend r f\nblock k kid\n"
@@ -107,7 +108,7 @@ pub fn a_nested_viewport_clips()
         ) }
 {}
 
-/// A target that is apart from its root has the index 0, so that it is told again once it is only out of sight.
+/// A target that is apart from its root has index 0, so it is reported again once it is merely out of view.
 pub fn a_target_that_is_apart_has_the_index_0()
     ensures { trace (
         codes "script 1\nblock r top\nappend top r\nblock s top\nset s height 10px\nappend r s\n"
@@ -120,7 +121,7 @@ pub fn a_target_that_is_apart_has_the_index_0()
         ) }
 {}
 
-/// A target without a box in the root's document has the index of nothing seen, so that it is not told again.
+/// A target without a box in the root's document has the same index as one out of view, so it isn't reported again.
 pub fn a_target_without_a_box_has_the_index_of_nothing_seen()
     ensures { trace (
         codes "script 1\nblock r top\nappend top r\nblock t top\nset t height 10px\n"
@@ -132,7 +133,7 @@ pub fn a_target_without_a_box_has_the_index_of_nothing_seen()
         ) }
 {}
 
-/// A root that clips is seen by its padding box, another one by its border box.
+/// The root rectangle of a root that clips is its padding box, that of another root its border box.
 pub fn a_root_that_clips_is_its_padding_box()
     ensures { trace (
         codes "script 1\nblock r top\nappend top r\nblock s top\nset s height 100px\n"
@@ -147,7 +148,7 @@ pub fn a_root_that_clips_is_its_padding_box()
         ) }
 {}
 
-/// An observer's scroll margins move the clip of a scroll container outward, and no other observer's.
+/// An observer's scroll margins expand the clips of scroll containers for this observer only.
 pub fn scroll_margins_move_a_clip()
     ensures { trace (
         codes "script 2\nblock r top\nappend top r\nblock s top\nset s height 100px\n"

@@ -1,4 +1,4 @@
-//! Worked examples of the definitions: scripts with the traces that they must have, computed from bytes to bytes.
+//! Worked examples of the definitions: scripts and the traces that they must have, computed from bytes to bytes.
 #![tactic(auto, unfolding(page_model::specs::Outcome::trace, page_model::specs::Outcome::check_text, page_model::specs::Outcome::summary_of, script_model::specs::Generator::generated))]
 
 pub mod commanding;

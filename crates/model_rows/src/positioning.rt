@@ -3,7 +3,7 @@
 ghost use Rattle.std.specs.Prelude.{◌≡◌, ◌++◌, codes};
 ghost use Rattle.page_model.specs.Outcome.{trace};
 
-/// An absolute box stands in the padding box of its nearest positioned ancestor, and in the page where there is none; it adds
+/// An absolute box is placed in the padding box of its nearest positioned ancestor, or in the page if there is none; it adds
 /// nothing to the height of its parent.
 pub fn a_containing_block_is_the_nearest_positioned_ancestor()
     ensures { trace (
@@ -16,7 +16,7 @@ pub fn a_containing_block_is_the_nearest_positioned_ancestor()
         ) }
 {}
 
-/// A box that clips leaves alone what it doesn't hold.
+/// A box that clips doesn't clip boxes that it doesn't hold.
 pub fn a_clip_is_of_what_the_box_holds()
     ensures { trace (
         codes "script 2\nblock r top\nappend top r\nblock s top\nset s height 50px\n"
@@ -32,7 +32,7 @@ pub fn a_clip_is_of_what_the_box_holds()
         ) }
 {}
 
-/// The screen holds a fixed box, and no scroll moves it.
+/// The screen holds a fixed box, so scrolling doesn't move it.
 pub fn a_fixed_box_stays_on_the_screen()
     ensures { trace (
         codes "script 2\nblock r top\nappend top r\nblock s top\nset s height 2000px\nappend r s\n"
@@ -43,7 +43,8 @@ pub fn a_fixed_box_stays_on_the_screen()
         ) }
 {}
 
-/// A root element counts as static: as one an absolute box fills the viewport, and between its insets elsewhere.
+/// A root element counts as static: with `position: absolute` it still fills the viewport, while elsewhere such a box is laid out between
+/// its insets.
 pub fn a_root_element_counts_as_static()
     ensures { trace (
         codes "script 2\nblock a top\nset a position absolute\nset a left 10px\nappend top a\n"

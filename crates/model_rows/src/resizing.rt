@@ -1,4 +1,4 @@
-//! Resize observers: what is delivered, in which round, and what is left for the next tick (Resize Observer, 3.4).
+//! Resize observers: what is delivered, in which round, and what remains for the next tick (Resize Observer, 3.4).
 
 ghost use Rattle.std.specs.Prelude.{◌≡◌, ◌++◌, codes};
 ghost use Rattle.page_model.specs.Outcome.{trace};
@@ -24,7 +24,7 @@ pub fn an_unchanged_size_is_not_delivered_again()
         ) }
 {}
 
-/// An element without a box has the size 0 by 0: it is delivered as its box comes and as it goes.
+/// An element without a box has the size 0 by 0: entries are delivered when its box appears and when it disappears.
 pub fn a_box_that_comes_and_goes()
     ensures { trace (
         codes "script 1\nblock r top\nappend top r\nblock b top\nset b display none\n"
@@ -36,8 +36,8 @@ pub fn a_box_that_comes_and_goes()
         ) }
 {}
 
-/// A round delivers only what is deeper than the round before. What has changed and is not deeper is skipped, which an
-/// error event tells, and delivered at the next tick.
+/// A round delivers only what is deeper than the round before. What has changed and isn't deeper is skipped, which an
+/// error event reports, and delivered at the next tick.
 pub fn each_round_goes_deeper()
     ensures { trace (
         codes "script 1\nhandler more\ngrow c height 1px\nend\nblock r top\nappend top r\n"
@@ -55,7 +55,7 @@ pub fn each_round_goes_deeper()
         ) }
 {}
 
-/// An entry has the sizes at its delivery, not those at which it was gathered.
+/// An entry has the sizes at its delivery, not those at gathering.
 pub fn sizes_are_those_at_the_delivery()
     ensures { trace (
         codes "script 1\nhandler ha\nset c height 20px\nend\nhandler hb\nset c height 10px\n"
@@ -69,7 +69,7 @@ pub fn sizes_are_those_at_the_delivery()
         ) }
 {}
 
-/// Disconnecting an observer takes back what was gathered for it.
+/// Disconnecting an observer discards what was gathered for it.
 pub fn disconnecting_drops_what_is_active()
     ensures { trace (
         codes "script 1\nhandler ha\nro-disconnect b\nend\nblock r top\nappend top r\n"
@@ -81,7 +81,7 @@ pub fn disconnecting_drops_what_is_active()
         ) }
 {}
 
-/// Unobserving a target does not take back what was gathered.
+/// Unobserving a target doesn't discard what was gathered.
 pub fn unobserving_leaves_what_is_active()
     ensures { trace (
         codes "script 1\nhandler ha\nro-unobserve b y\nend\nblock r top\nappend top r\n"
@@ -94,7 +94,7 @@ pub fn unobserving_leaves_what_is_active()
         ) }
 {}
 
-/// Observing a target anew makes another observation: the delivery of the old one reports nothing for the new one.
+/// Observing a target again creates another observation: the delivery of the old one reports nothing for the new one.
 pub fn observing_anew_makes_another_observation()
     ensures { trace (
         codes "script 1\nhandler ha\nro-observe b y content\nend\nblock r top\nappend top r\n"
@@ -136,7 +136,7 @@ pub fn observing_a_second_box_is_skipped()
         ) }
 {}
 
-/// A callback that removes a gathered target lets the depth of a round stay as it was.
+/// If a callback removes a gathered target, the next round may be no deeper.
 pub fn a_round_may_go_no_deeper()
     ensures { trace (
         codes "script 1\nhandler ha\nwhen not taller x 12.5px\ngrow x height 1px\nremove y\n"
@@ -166,7 +166,8 @@ pub fn a_document_that_dies_ends_the_loop()
         ) }
 {}
 
-/// A box of device pixels is told in these, rounded to the nearest one, and is another size once their ratio changes.
+/// A device-pixel content box is reported in whole device pixels, rounded to the nearest, and counts as resized when the device pixel ratio
+/// changes it.
 pub fn device_pixels_are_rounded()
     ensures { trace (
         codes "script 2\nblock r top\nappend top r\nset r width 10.5px\nset r height 3px\n"
@@ -177,7 +178,7 @@ pub fn device_pixels_are_rounded()
         ) }
 {}
 
-/// Scripts of the first version have no ratio.
+/// Scripts of the first version have no `ratio`.
 pub fn a_ratio_in_the_first_version()
     ensures { trace (
         codes "script 1\nblock r top\nappend top r\nset r width 10.5px\nset r height 3px\n"

@@ -3,8 +3,8 @@
 ghost use Rattle.std.specs.Prelude.{◌≡◌, ◌++◌, codes};
 ghost use Rattle.page_model.specs.Outcome.{trace};
 
-/// A second listener of one kind and handler is ignored, the first resize steps only note the size, and a query list
-/// fires where its state has changed.
+/// A second listener for the same event and handler is ignored, the first resize steps only record the size, and a media query list
+/// fires `change` if its state has changed.
 pub fn events_of_the_viewport_and_of_queries()
     ensures { trace (
         codes "script 1\nhandler h\nsay wide\nend\nblock r top\nappend top r\n"
@@ -16,7 +16,7 @@ pub fn events_of_the_viewport_and_of_queries()
         ) }
 {}
 
-/// Frame callbacks come in the update and tasks after it, timers when they are due, and the clock does not go back.
+/// Frame callbacks run during the update and tasks after it, timers when they are due, and the clock can't go back.
 pub fn timers_frames_tasks_and_the_clock()
     ensures { trace (
         codes "script 1\nhandler h\nsay hello\nend\ntimer top t 10 h\nraf top f h\npost top h\n"
@@ -27,7 +27,7 @@ pub fn timers_frames_tasks_and_the_clock()
         ) }
 {}
 
-/// A timer that is cleared meanwhile is not run, and one that is set meanwhile waits for the next tick.
+/// A timer that is cleared in the meantime doesn't run, and one that is set in the meantime waits for the next tick.
 pub fn a_timer_that_is_cleared_before_its_turn()
     ensures { trace (
         codes "script 1\nhandler a\nclear-timer top y\ntimer top z 0 b\nend\nhandler b\n"
@@ -37,7 +37,7 @@ pub fn a_timer_that_is_cleared_before_its_turn()
         ) }
 {}
 
-/// Scrolling stays within the range as it is at each reading, and a Dead document has no boxes and fires nothing.
+/// A scroll offset is clamped to the range at each reading, and a Dead document has no boxes and fires nothing.
 pub fn an_offset_is_kept_within_the_range()
     ensures { trace (
         codes "script 1\nblock r top\nappend top r\nframe f top kid\nappend r f\nblock k kid\n"
@@ -49,7 +49,7 @@ pub fn an_offset_is_kept_within_the_range()
         ) }
 {}
 
-/// A listener that was removed meanwhile is not run, even if it was registered anew.
+/// A listener that was removed in the meantime doesn't run, even if it was registered again.
 pub fn a_listener_that_was_removed_is_not_run()
     ensures { trace (
         codes "script 1\nhandler a\nunlisten @top resize b\nlisten @top resize b\nend\nhandler b\n"
@@ -60,7 +60,7 @@ pub fn a_listener_that_was_removed_is_not_run()
         ) }
 {}
 
-/// A scroll at a document goes on to its window.
+/// A `scroll` event at a document bubbles to its window.
 pub fn a_scroll_goes_on_to_the_window()
     ensures { trace (
         codes "script 1\nhandler d\nsay document\nend\nhandler w\nsay window\nend\nblock r top\n"
@@ -71,7 +71,7 @@ pub fn a_scroll_goes_on_to_the_window()
         ) }
 {}
 
-/// Intersections are looked at after the resize loop, and see what its callbacks have changed.
+/// Intersections are computed after the resize loop, and take into account what its callbacks have changed.
 pub fn intersections_come_after_the_resize_loop()
     ensures { trace (
         codes "script 1\nhandler h\nset s height 10px\nend\nblock r top\nappend top r\nblock s top\n"

@@ -1,4 +1,4 @@
-//! A map from numbers to values, seen as the finite map that it is.
+//! A map from numbers to values, which contracts see as a finite map.
 #![tactic(auto)]
 
 ghost use Rattle.std.specs.Prelude.{◌≡◌, true, OnOk, OnErr, IsOk};
@@ -8,8 +8,8 @@ use indexmap::IndexMap;
 use std::alloc::{AllocError, Global};
 use std::marker::Model;
 
-/// A map from numbers to values that are copied. A clause sees the finite map, so in what order entries were made makes no
-/// difference. Look-ups hash the number, and a removal moves one entry.
+/// A map from numbers to `Copy` values. A contract sees the finite map, so the order in which entries were inserted makes no
+/// difference. Lookups hash the number, and a removal moves at most one entry.
 #[derive(Drop)]
 pub struct NumberMap<V> {
     entries: IndexMap<u64, V>,
@@ -28,7 +28,7 @@ impl<V> Model for NumberMap<V> {
 }
 
 impl<V: Copy> NumberMap<V> {
-    /// No entries, which take no memory yet.
+    /// Creates an empty map; allocates nothing.
     pub fn new(alloc: Global) -> NumberMap<V>
         ensures { result ≡ finite.empty }
     {
@@ -37,15 +37,15 @@ impl<V: Copy> NumberMap<V> {
         }
     }
 
-    /// The value at a number, None exactly where there is none.
+    /// Returns the value of a number, or `None` exactly if it has none.
     pub fn get(&self, number: u64) -> Option<V>
         ensures { result ≡ finite.get self.now number }
     {
         self.entries.get(&number).copied()
     }
 
-    /// Puts a value at a number in place of the one that is there, if there is one. It is refused only for want of memory,
-    /// and never where there is a value; nothing changes then.
+    /// Sets the value of a number, replacing the present one if there is one. It fails only when an allocation fails, in which
+    /// case nothing changes, and never if the number already has a value.
     pub fn insert(&mut self, number: u64, value: V) -> Result<(), AllocError>
         ensures inserted { OnOk result (self.new ≡ finite.insert self.old number value) }
         ensures same { OnErr result (self.new ≡ self.old) }
@@ -55,7 +55,7 @@ impl<V: Copy> NumberMap<V> {
         Ok(())
     }
 
-    /// Takes the value at a number out, if there is one. No memory.
+    /// Removes the value of a number, if it has one. Allocates nothing.
     pub fn remove(&mut self, number: u64)
         ensures { self.new ≡ finite.remove self.old number }
     {

@@ -1,4 +1,4 @@
--- A page to try chains on, told spot by spot. Its elements from 9 on have no box.
+-- A page for tests of chains, given spot by spot. Its elements from 9 on have no box.
 use Rattle.std.specs.Prelude.{ℕ, Bool, true, false, cond, ◌==◌, pos, Option, Some, None}
 use Rattle.px_units.specs.declared.Rect.{Rect}
 use Rattle.page_model.specs.Chains.{zero_rect}
@@ -84,7 +84,7 @@ sample = record {
   moved = λ of. false;
 }
 
--- how far each stands within the top document
+-- the rank of each spot, which is greater than that of its container
 abbrev pub sample_rank : Container → ℕ
 sample_rank (Document document) = cond (document.0 == 1) 4 0
 sample_rank (Element node) =

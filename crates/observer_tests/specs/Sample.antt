@@ -1,5 +1,5 @@
--- A page to try clips and registrations on. It has the top document alone: its first element stands in the viewport, each other
--- one in that of half its number.
+-- A page for tests of clips and registrations. It has the top document only: the container of its first element is the viewport,
+-- and that of each other one is the element with half its number.
 use Rattle.std.specs.Prelude.{ℕ, false, suc, ◌+◌, ◌/◌, cond, ◌==◌, pos, List, Option, Some, None, option_map}
 use Rattle.std.specs.List.{slice_index_or}
 use Rattle.px_units.specs.declared.Rect.{Rect}
@@ -40,7 +40,7 @@ abbrev pub sample_box : List Sides → Sides → Container → Rect
 sample_box boxes view (Document document) = rect_of view
 sample_box boxes view (Element node) = rect_of (slice_index_or boxes node.0 (0, 0, 0, 0))
 
--- by what the elements clip to, their boxes and the viewport
+-- the scene with these clips and boxes of the elements, and this viewport
 abbrev pub sample : List (Option Sides) → List Sides → Sides → Scene
 sample clips boxes view = record {
   container = sample_container;
@@ -50,7 +50,7 @@ sample clips boxes view = record {
   moved = λ of. false;
 }
 
--- a target stands to each root in the same way
+-- a target has the same relation to each root
 abbrev pub sample_standing : List Standing → ℕ → Standing
 sample_standing standings target = slice_index_or standings target Apart
 

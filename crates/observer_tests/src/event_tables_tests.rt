@@ -249,18 +249,24 @@ fn timers_run_by_due_time_and_then_by_making(rt: HostRuntime) -> Result<(), Fail
     Ok(())
 }
 
-// A timer of each of so many documents, all of them due at 7.
+/// How many timers are due at once: more than a node of any tree holds.
+const MANY: u32 = 300;
+
+/// When they are due.
+const DUE: u64 = 7;
+
+// A timer of each of so many documents.
 fn add_many(timers: &mut Timers, x: Name) -> Result<(), Fail>
     requires { timers.old.part.given ≡ 0 }
 {
-    for document in 0..300u32 {
-        timers.add(DocumentId(document), x, 7, HandlerId(document))?;
+    for document in 0..MANY {
+        timers.add(DocumentId(document), x, DUE, HandlerId(document))?;
     }
     Ok(())
 }
 
 fn see_many(rt: &impl Abort, timers: &mut Timers, batch: &mut Batch, x: Name) {
-    for document in 0..300u32 {
+    for document in 0..MANY {
         let called = timers.next(batch);
         assert_eq!(rt;
             called,
@@ -273,9 +279,9 @@ fn see_many(rt: &impl Abort, timers: &mut Timers, batch: &mut Batch, x: Name) {
 #[test]
 fn timers_that_are_due_at_once_run_in_order_of_setting(rt: HostRuntime) -> Result<(), Fail> {
     let x = name(&rt, b"x");
-    let mut timers = Timers::new(rt.alloc(), 300);
+    let mut timers = Timers::new(rt.alloc(), MANY);
     add_many(&mut timers, x)?;
-    let mut batch = timers.take_due(7)?;
+    let mut batch = timers.take_due(DUE)?;
     see_many(&rt, &mut timers, &mut batch, x);
     Ok(())
 }

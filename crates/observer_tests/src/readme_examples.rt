@@ -133,6 +133,8 @@ fn what_was_gathered_is_delivered(rt: HostRuntime) -> Result<(), Fail> {
         // the observer's callback is called with the entries here; the next delivery is looked for from delivery.place on
         assert_eq!(rt; delivery.entries.as_slice().len(), 1);
         end_delivery(&mut observers, delivery.observer);
+    } else {
+        assert!(rt; false, "nothing is delivered");
     }
     Ok(())
 }

@@ -73,27 +73,24 @@ fn take(rt: &impl Abort, scrolls: &mut Scrolls, document: DocumentId, want: &[Co
 fn pending_lists_have_an_order_and_no_doubles(rt: HostRuntime) -> Result<(), Fail> {
     let mut scrolls = Scrolls::new(rt.alloc());
     let steps = [
-        (0, BOX, 1),
-        (2, BOX, 2),
-        (0, VIEW, 1),
-        (0, BOX, 3),
-        (0, OTHER, 1),
-        (0, OTHER, 1),
-        (0, Container::Element(NodeId(0)), 0),
-        (2, TOP, 9),
+        (0, BOX, 1, Outcome::Moved),
+        (2, BOX, 2, Outcome::Moved),
+        (0, VIEW, 1, Outcome::Moved),
+        (0, BOX, 3, Outcome::Moved),
+        (0, OTHER, 1, Outcome::Moved),
+        (0, OTHER, 1, Outcome::Same),
+        (0, Container::Element(NodeId(0)), 0, Outcome::Same),
+        (2, TOP, 9, Outcome::Moved),
     ];
-    for (document, target, top) in steps {
-        let _outcome = scrolls.scroll_to(
-            DocumentId(document),
-            target,
-            pixels(0, top),
-            range(9, 9),
-        )?;
+    for (document, target, top, want) in steps {
+        let outcome = scrolls.scroll_to(DocumentId(document), target, pixels(0, top), range(9, 9))?;
+        assert_eq!(rt; outcome, want, "to {top}");
     }
     take(&rt, &mut scrolls, DocumentId(0), &[BOX, VIEW, OTHER]);
     take(&rt, &mut scrolls, DocumentId(0), &[]);
     take(&rt, &mut scrolls, DocumentId(1), &[]);
-    let _outcome = scrolls.scroll_to(DocumentId(0), OTHER, pixels(0, 2), range(9, 9))?;
+    let outcome = scrolls.scroll_to(DocumentId(0), OTHER, pixels(0, 2), range(9, 9))?;
+    assert_eq!(rt; outcome, Outcome::Moved);
     take(&rt, &mut scrolls, DocumentId(0), &[OTHER]);
     take(&rt, &mut scrolls, DocumentId(2), &[BOX, TOP]);
     take(&rt, &mut scrolls, DocumentId(7), &[]);

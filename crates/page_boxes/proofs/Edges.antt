@@ -3,6 +3,7 @@ use Rattle.std.proofs.Common.{◌≡◌, ◌≤◌, ◌+◌, ◌-◌, ℕ, ℤ, 
 use Rattle.std.proofs.lemmas.Bool.Decides.{nat_tests}
 use Rattle.std.proofs.lemmas.Int.{ints}
 use Rattle.std.specs.Prelude.{◌&&◌, not, is_some, pos, negsuc, ◌+ℤ◌, ◌-ℤ◌, unsigned_abs, Contains}
+use Rattle.std.proofs.lemmas.Bool.{and_parts}
 use Rattle.px_units.specs.Lengths.{cap, at_least_zero}
 use Rattle.px_units.specs.declared.Size.{Size}
 use Rattle.px_units.specs.declared.Point.{Point}
@@ -65,10 +66,6 @@ block_of false visible inner clip is = cc
 
 scroller_block : (node : Node) → is_scroll_container node ≡ true → is_block node.item.kind ≡ true
 scroller_block node is = block_of (is_block node.item.kind) (is_visible node.item.style.overflow) (is_some node.parent) (is_clip node.item.style.overflow) is
-
-pub first_true : (first second : Bool) → (first && second) ≡ true → first ≡ true
-first_true true second is = refl
-first_true false second is = cc
 
 static_is : (position : Position) → is_static position ≡ true → position ≡ StaticPosition
 static_is StaticPosition is = refl
@@ -151,7 +148,7 @@ module _ (at : ℕ → Node) (view : View) (kept : List Slot) (holds : HoldsAll 
     kid_clipped : clipped_by at c ≡ Some n
     kid_clipped =
         clipped_held at shallow c n (holder_of_child at c n up (ap is_flow kid_static))
-        ∙ ap (λ b. cond b (Some n) (clipped_by at n)) (first_true (clips (at n)) (not (is_clip (at n).item.style.overflow)) scroller)
+        ∙ ap (λ b. cond b (Some n) (clipped_by at n)) ((and_parts (clips (at n)) (not (is_clip (at n).item.style.overflow)) scroller).0)
 
     corner_same : padding_corner (box_in at inputs n) ≡ border_corner (at n).item
     unfolding box_in

@@ -2,17 +2,13 @@
 use Rattle.std.proofs.Common.{◌≡◌, ℕ, Bool, true, false, List, [], ◌∷◌, Option, Some, None, nat_eq, refl, ap, sym, ◌∙◌, arith, zero, suc}
 use Rattle.std.proofs.lemmas.Bool.Decides.{nat_tests}
 use Rattle.std.specs.Prelude.{◌||◌, ◌==◌, ◌&&◌, not, is_some}
+use Rattle.std.proofs.lemmas.Bool.{and_parts}
 use Rattle.layout_model.specs.Nodes.{Node, path_above, path_up, path_of, is_among, is_in_path, last_of}
 use Rattle.layout_model.specs.Boxes.{Inputs, has_box_along, has_box_in, inputs_in}
 use Rattle.layout_model.specs.Clips.{is_block}
 use Rattle.layout_model.specs.Views.{View, view_inputs, inputs_in_view}
 use Rattle.layout_model.proofs.Inputs.{is_some_inputs}
 use Rattle.page_boxes.proofs.Boxed.{found_in, found_is}
-
--- a node with a box is in the tree of the root
-pub second_true : (first second : Bool) → (first && second) ≡ true → second ≡ true
-second_true true second e = e
-second_true false second e = cc
 
 pub or_true : (a b : Bool) → b ≡ true → (a || b) ≡ true
 or_true true b e = refl
@@ -21,15 +17,16 @@ or_true false b e = e
 among_alone : (root n : ℕ) → (n == root) ≡ true → (root == n || false) ≡ true
 among_alone root n e = let turned : nat_eq root n ≡ true = grind (arith, nat_tests) in ap (λ b. b || false) turned
 
+-- a node with a box is in the tree of the root
 along_among : (at : ℕ → Node) (root : ℕ) (path : List ℕ) → has_box_along at root path ≡ true → is_among root path ≡ true
 unfolding has_box_along is_among
 along_among at root [] boxed = cc
-along_among at root (n ∷ []) boxed = among_alone root n (second_true (not ((at n).item.style.hidden)) (n == root) boxed)
+along_among at root (n ∷ []) boxed = among_alone root n ((and_parts (not ((at n).item.style.hidden)) (n == root) boxed).1)
 along_among at root (n ∷ (p ∷ above)) boxed =
     or_true (root == n) (is_among root (p ∷ above))
     (along_among at root (p ∷ above)
-    (second_true (is_block ((at p).item.kind)) (has_box_along at root (p ∷ above))
-    (second_true (not ((at n).item.style.hidden)) (is_block ((at p).item.kind) && has_box_along at root (p ∷ above)) boxed)))
+    ((and_parts (is_block ((at p).item.kind)) (has_box_along at root (p ∷ above))
+    ((and_parts (not ((at n).item.style.hidden)) (is_block ((at p).item.kind) && has_box_along at root (p ∷ above)) boxed).1)).1))
 
 module _ (at : ℕ → Node) (root : ℕ) where
   inside_boxed : (n : ℕ) → has_box_in at root n ≡ true → is_in_path at root n ≡ true

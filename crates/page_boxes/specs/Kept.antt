@@ -9,13 +9,14 @@ use Rattle.kept_layout.specs.Slots.{slot_in, held_in}
 use Rattle.kept_layout.specs.Sound.{IsSound}
 use Rattle.kept_layout.specs.Due.{is_due as is_due_with, due_count as due_count_with}
 
--- what is kept fits the elements of a page: each has its slot, and nothing is held for elements that aren't made yet
+-- what is kept is consistent with the elements of a page: each has its slot, and nothing is held for elements that aren't made
+-- yet
 pub record AreKept (tree : Tree) (kept : List Slot) : Type 0 where
   pub slots : length tree.elements ≤ length kept
   pub sound : IsSound (nodes_of tree) (slot_in kept)
   pub unmade : (n : ℕ) → length tree.elements ≤ n → (slot_in kept n).found ≡ None
 
--- which elements are due, and how many, where `top` has this screen
+-- which elements are due, and how many, for a `top` with this screen
 abbrev pub is_due : Tree → Screen → List Slot → ℕ → Bool
 is_due tree screen kept = is_due_with (inputs_of tree screen) (slot_in kept)
 

@@ -1,4 +1,4 @@
--- Which documents are laid out so far, and what is left as it is.
+-- Which documents are laid out so far, and what stays as it is.
 use Rattle.std.specs.Prelude.{◌≡◌, ℕ, Bool, true, false, List, length}
 use Rattle.page_model.specs.World.{Screen, Tree}
 use Rattle.page_model.specs.Lookups.{element_at, entry_or, is_listed}
@@ -19,12 +19,12 @@ is_marked marks document = entry_or false marks document
 abbrev pub AreLaidOut : Tree → Screen → List Bool → List Slot → Type 0
 AreLaidOut tree screen marks kept = (document : ℕ) → is_marked marks document ≡ true → IsLaidOut tree screen kept document
 
--- how the marks and what is kept go on: what was marked stays so, and all that is marked is laid out
+-- the marks so far, and what is kept with them: what was marked stays marked, and each document that is marked is laid out
 pub record GoesOn (tree : Tree) (screen : Screen) (before marks : List Bool) (kept : List Slot) : Type 0 where
   pub count : length marks ≡ 64
   pub more : (document : ℕ) → is_marked before document ≡ true → is_marked marks document ≡ true
   pub laid_out : AreLaidOut tree screen marks kept
 
--- of what is kept nothing changes but for elements of these documents
+-- what is kept changes for elements of these documents only
 abbrev pub ChangesOnlyIn : Tree → List ℕ → List Slot → List Slot → Type 0
 ChangesOnlyIn tree documents old new = (n : ℕ) → is_listed (element_at tree n).document documents ≡ false → slot_in new n ≡ slot_in old n

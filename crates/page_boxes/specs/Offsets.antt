@@ -1,4 +1,4 @@
--- Scroll offsets in force of elements that were found before, in a map from their numbers.
+-- Scroll offsets in force that were found earlier, in a map from the numbers of elements.
 use Rattle.std.specs.Prelude.{◌≡◌, ℕ, true, IfSome, is_some}
 use Rattle.std.specs.Ordering.{nat_cmp}
 use Rattle.std.specs.FinMap.{FinMap, get}
@@ -12,7 +12,7 @@ use Rattle.page_boxes.specs.Ranges.{IsOffset}
 abbrev pub AreOffsets : FinMap nat_cmp Point → Type 0
 AreOffsets found = (node : ℕ) → IfSome (get found node) IsOffset
 
--- each that was found of a box in a view is in force there
+-- each offset that was found for an element with a box in a view is the one in force there
 abbrev pub AreInForce : (ℕ → Node) → (ℕ → ℕ × ℕ) → View → FinMap nat_cmp Point → Type 0
 AreInForce at stored view found =
     (node : ℕ) → IfSome (get found node) (λ offset. is_some (inputs_in_view at view node) ≡ true → offset ≡ as_point (offset_in_force at stored view node))

@@ -1,4 +1,4 @@
--- What is asked of a page: sizes and the screen.
+-- The sizes and the screen of a page.
 use Rattle.std.specs.Prelude.{ℕ, unsigned_abs}
 use Rattle.px_units.specs.declared.Size.{Size}
 use Rattle.style_values.specs.Ranges.{IsHundredths}
@@ -12,7 +12,7 @@ seen_size size = record { across = unsigned_abs size.width; down = unsigned_abs 
 abbrev pub seen_screen : ShownScreen → Screen
 seen_screen screen = record { size = seen_size screen.size; ratio = unsigned_abs (screen.ratio.0) }
 
--- a viewport has no negative length, and a pixel is at most 100 device pixels
+-- the width and the height are from 0 to the largest length, and a CSS pixel is at most 100 device pixels
 pub record IsScreen (screen : ShownScreen) : Type 0 where
   pub size : IsNatural screen.size
   pub ratio : IsHundredths (screen.ratio.0)

@@ -1,4 +1,4 @@
--- How far lengths and places reach.
+-- The ranges of lengths and places.
 use Rattle.std.specs.Prelude.{ℤ, pos, negsuc, ◌≤ℤ◌}
 use Rattle.px_units.specs.declared.Point.{Point}
 use Rattle.px_units.specs.declared.Rect.{Rect}
@@ -20,7 +20,7 @@ IsPlace units = (negsuc 2199023255551 ≤ℤ units) × (units ≤ℤ pos 2199023
 abbrev pub IsEdge : ℤ → Type 0
 IsEdge units = (negsuc 4398046511103 ≤ℤ units) × (units ≤ℤ pos 4398046511104)
 
--- each edge of a rectangle at a place, with a span on each axis
+-- the edges of a rectangle that begins at a place and has a span on each axis
 pub record AreEdges (r : Rect) : Type 0 where
   pub left : IsEdge r.left
   pub top : IsEdge r.top

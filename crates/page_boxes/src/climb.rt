@@ -10,7 +10,7 @@ ghost use Rattle.block_layout.specs.Trees.{layout_tree};
 use block_layout::{Styled, is_block, is_hidden};
 use element_tree::{NodeId, Tree};
 
-// Whether a node has a box where its parent has one.
+// Whether a node has a box if its parent has one.
 fn takes_part<P: Styled>(tree: &Tree<P>, parent: NodeId, node: NodeId) -> bool
     requires parent { parent.0 < length tree.now.nodes }
     requires node { node.0 < length tree.now.nodes }

@@ -18,7 +18,7 @@ use kept_layout::Kept;
 use page_tree::PageTree;
 use px_units::{BoxKind, Size};
 
-/// How many nested frames are followed: more than there can be.
+/// The bound on nested frames that are followed: more than there can be.
 const LEVELS: u32 = 65536;
 
 const NO_SIZE: Size = Size {
@@ -26,7 +26,7 @@ const NO_SIZE: Size = Size {
     height: 0,
 };
 
-// The root element that a document shows, following `high` frames at most.
+// Returns the root element that a document shows, following at most `high` frames.
 fn root_up(page: &PageTree, document: DocumentId, high: u32) -> Option<NodeId>
     ensures { (screen : WorldScreen) → option_map number result ≡ (view_up high page.now.tree screen document.0).root }
 {
@@ -48,16 +48,16 @@ fn root_up(page: &PageTree, document: DocumentId, high: u32) -> Option<NodeId>
     }
 }
 
-/// The root element that a document shows: none where it isn't Active or its frame has no box. No memory.
+/// Returns the root element that a document shows, `None` if it isn't Active or its frame has no box. Doesn't allocate.
 ///
-/// It calls itself once for each frame around the document.
+/// It recurses once for each frame around the document.
 pub fn shown_root(page: &PageTree, document: DocumentId) -> Option<NodeId>
     ensures { (screen : WorldScreen) → option_map number result ≡ (view_of page.now.tree screen document.0).root }
 {
     root_up(page, document, LEVELS)
 }
 
-/// Whether an element has a box where its document shows this root element (`has_box`). No memory.
+/// Whether an element has a box, given the root element that its document shows (`has_box`). Doesn't allocate.
 pub fn has_box_below(page: &PageTree, root: Option<NodeId>, node: NodeId) -> bool
     ensures { (screen : WorldScreen) → option_map number root ≡ (view_at page.now.tree screen node.0).root → result ≡ has_box page.now.tree screen node.0 }
 {
@@ -67,8 +67,8 @@ pub fn has_box_below(page: &PageTree, root: Option<NodeId>, node: NodeId) -> boo
     is_boxed(page.tree(), root, node)
 }
 
-/// Whether an element has a box (CSS 2.2, 9.2.4): it stands in the tree of an Active document, that is `top` or its frame has a
-/// box, neither the element nor an ancestor has `display: none`, and each proper ancestor is a block. No memory.
+/// Whether an element has a box (CSS 2.2, 9.2.4): it is in the tree of an Active document that is `top` or whose frame has a
+/// box, neither the element nor an ancestor has `display: none`, and each proper ancestor is a block. Doesn't allocate.
 pub fn has_box(page: &PageTree, node: NodeId) -> bool
     ensures { (screen : WorldScreen) → result ≡ has_box page.now.tree screen node.0 }
 {
@@ -76,8 +76,8 @@ pub fn has_box(page: &PageTree, node: NodeId) -> bool
     has_box_below(page, root, node)
 }
 
-/// The box of an element where its document shows this root element, none where it has none. Exact as long as the boxes of its document are
-/// up to date (`refresh_in`). No memory.
+/// Returns the box of an element, given the root element that its document shows, `None` if it has none. Exact if the
+/// boxes of its document are up to date (`refresh_in`). Doesn't allocate.
 pub fn box_below(page: &PageTree, boxes: &Kept, root: Option<NodeId>, node: NodeId) -> Option<BoxOf>
     ensures { (screen : WorldScreen) → option_map number root ≡ (view_at page.now.tree screen node.0).root →
         IsFreshIn page.now.tree screen boxes.now (element_at page.now.tree node.0).document → result ≡ box_of page.now.tree screen node.0 }
@@ -89,7 +89,7 @@ pub fn box_below(page: &PageTree, boxes: &Kept, root: Option<NodeId>, node: Node
     }
 }
 
-// The box of an element, none where it has none.
+// Returns the box of an element, `None` if it has none.
 pub(crate) fn own_box(page: &PageTree, boxes: &Kept, node: NodeId) -> Option<BoxOf>
     ensures { (screen : WorldScreen) → IsFreshIn page.now.tree screen boxes.now (element_at page.now.tree node.0).document →
         result ≡ box_of page.now.tree screen node.0 }
@@ -98,7 +98,7 @@ pub(crate) fn own_box(page: &PageTree, boxes: &Kept, node: NodeId) -> Option<Box
     box_below(page, boxes, root, node)
 }
 
-// The size of a document's viewport, none where its frame has no box.
+// Returns the size of a document's viewport, `None` if its frame has no box.
 pub(crate) fn framed_size(
     page: &PageTree,
     boxes: &Kept,
@@ -127,9 +127,9 @@ pub struct ShownRoot {
     pub size: Size,
 }
 
-/// The size of a document's viewport (CSSOM View, 4: `innerWidth`, `innerHeight`): for `top` that of its screen, and for another document
-/// the content box of its frame, 0 by 0 where that has no box. Exact as long as the boxes of the document around it are up to date with
-/// this screen (`refresh_in`). No memory.
+/// Returns the size of a document's viewport (CSSOM View, 4: `innerWidth`, `innerHeight`): for `top` that of its screen, for
+/// any other document that of the content box of its frame, 0 by 0 if that has no box. Exact if the boxes of the
+/// document that its frame is in are up to date for this screen (`refresh_in`). Doesn't allocate.
 pub fn viewport_of(page: &PageTree, boxes: &Kept, screen: Screen, document: DocumentId) -> Size
     requires { IsScreen screen }
     ensures value { IsFreshAbove page.now.tree (seen_screen screen) boxes.now document.0 →

@@ -1,4 +1,4 @@
-//! That what is kept of a page's boxes and isn't due is as it is now.
+//! Cached boxes that aren't due are up to date.
 
 ghost use Rattle.std.specs.Prelude.{◌≡◌, ℕ, false};
 ghost use Rattle.page_model.specs.World.{Screen as WorldScreen};
@@ -9,13 +9,13 @@ use element_tree::NodeId;
 use kept_layout::Kept;
 use page_tree::PageTree;
 
-/// What is held for an element that has a box and isn't due is that box as it is now, whatever screen `top` is shown on; so
-/// where none is due, all boxes of the page are held as they are now. This is so of all that fits a page: the call does nothing.
+/// The stored box of an element that has a box and isn't due is its current box, whatever screen `top` is shown on; so if
+/// none is due, all boxes of the page are up to date. A law about every sound cache: the call does nothing.
 pub fn undue_boxes_are_exact(boxes: &Kept, page: &PageTree)
     requires { AreKept page.now.tree boxes.now }
     ensures exact { (screen : WorldScreen) → IsExact page.now.tree screen boxes.now }
     ensures fresh { (screen : WorldScreen) → ((n : ℕ) → is_due page.now.tree screen boxes.now n ≡ false) → IsFresh page.now.tree screen boxes.now }
 {
-    // It tells that the elements make trees.
+    // Yields that the elements form trees.
     page.tree().holds(NodeId(0));
 }

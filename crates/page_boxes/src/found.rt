@@ -1,4 +1,4 @@
-//! Scroll offsets in force of elements, found once for a reading of many.
+//! Scroll offsets in force of elements, found once for many readings.
 
 ghost use Rattle.std.specs.Prelude.{◌≡◌, ◌<◌, true, IfSome, IfOk, length, is_some};
 ghost use Rattle.layout_model.specs.Views.{View, inputs_in_view};
@@ -20,12 +20,12 @@ use px_units::Point;
 use scrolling::Scrolls;
 use std::alloc::{AllocError, Global};
 
-/// The scroll offset in force of each node whose stored position isn't the start, by its number. Exact as long as the boxes in its view are
-/// up to date (`refresh_in`) and no length of the view is above the largest one.
+/// Returns a map of the scroll offsets in force of nodes whose stored position isn't 0, by their numbers. Each is exact only
+/// if the boxes of the node's document are up to date (`refresh_in`) and no length of its viewport is above the largest one.
 ///
 /// # Errors
 ///
-/// Where there is no memory.
+/// If an allocation fails.
 pub fn boxed_offsets<P: Styled>(
     alloc: Global,
     tree: &Tree<P>,
@@ -49,7 +49,7 @@ pub fn boxed_offsets<P: Styled>(
     Ok(found)
 }
 
-// The scroll offset in force of a node that has a box: the one in `found`, else measured.
+// Returns the scroll offset in force of a node that has a box: the one in `found`, otherwise measured.
 pub(crate) fn offset_of<P: Styled>(
     tree: &Tree<P>,
     boxes: &Kept,

@@ -1,5 +1,5 @@
-//! How far elements and viewports are scrolled: the stored position, within what can be scrolled by now (CSSOM View, 4 to 6).
-//! Where nothing is stored no range is measured, and none where one box by itself reaches as far as the stored position.
+//! Scroll offsets in force: the stored position, clamped to the current range (CSSOM View, 4 to 6). No range is measured if
+//! no position is stored, or if a single box reaches as far as the stored position.
 
 ghost use Rattle.std.specs.Prelude.{◌≡◌, ◌<◌, ℕ, true, Some, None, IfSome, length, is_some};
 ghost use Rattle.layout_model.specs.Points.{IsWithin};
@@ -29,13 +29,13 @@ use scrolling::Scrolls;
 
 const ORIGIN: Point = Point { left: 0, top: 0 };
 
-/// As far as anything can be scrolled.
+/// The largest possible scroll range.
 const FARTHEST: Size = Size {
     width: 2_147_483_647,
     height: 2_147_483_647,
 };
 
-/// Whether the stored position of a target is the start, where nothing is scrolled whatever its range. No memory.
+/// Whether the stored position of a target is 0, so that it isn't scrolled whatever its range. Doesn't allocate.
 pub fn is_at_start(scrolls: &Scrolls, target: Container) -> bool
     ensures start { result ≡ true → position_of (seen_container target) scrolls.now ≡ no_extent }
     ensures moved { position_of (seen_container target) scrolls.now ≡ no_extent → result ≡ true }
@@ -44,7 +44,7 @@ pub fn is_at_start(scrolls: &Scrolls, target: Container) -> bool
     stored.left == 0 && stored.top == 0
 }
 
-// The stored position of a target, where it lies within a lower bound of the target's range.
+// Returns the stored position of a target if it lies within a lower bound of the target's range.
 fn stored_within(scrolls: &Scrolls, target: Container, least: Size) -> Option<Point>
     ensures value { IfSome result (λ offset. (range : ℕ × ℕ) → IsWithin (seen_pair least) range → IsWithin range (2147483647, 2147483647) →
         offset ≡ point_of (lesser_extent (position_of (seen_container target) scrolls.now) (extent_of range))) }
@@ -58,9 +58,9 @@ fn stored_within(scrolls: &Scrolls, target: Container, least: Size) -> Option<Po
     }
 }
 
-/// The scroll offset in force of a node that has a box (CSSOM View, 6: `scrollTop`): on each axis the lesser of the stored position and of
-/// how far it can be scrolled. Exact as long as the boxes in its view are up to date (`refresh_in`) and no length of the view is above the
-/// largest one. No memory.
+/// Returns the scroll offset in force of a node that has a box (CSSOM View, 6: `scrollTop`): on each axis the lesser of the
+/// stored position and the range. Exact if the boxes of its document are up to date (`refresh_in`) and no length of its
+/// viewport is above the largest one. Doesn't allocate.
 pub fn boxed_offset<P: Styled>(
     tree: &Tree<P>,
     boxes: &Kept,
@@ -86,8 +86,8 @@ pub fn boxed_offset<P: Styled>(
     }
 }
 
-/// The scroll offset in force of the viewport in which a root element is shown (CSSOM View, 4: `scrollY`). Exact as long as the boxes in
-/// its view are up to date (`refresh_in`). No memory.
+/// Returns the scroll offset in force of the viewport in which a root element is shown (CSSOM View, 4: `scrollY`). Exact only
+/// if the boxes of the document are up to date (`refresh_in`). Doesn't allocate.
 pub fn shown_offset<P: Styled>(
     tree: &Tree<P>,
     boxes: &Kept,

@@ -7,7 +7,7 @@ use element_tree::DocumentId;
 use page_documents::MOST_DOCUMENTS;
 use std::marker::Model;
 
-// A mark for each document. It takes no memory.
+// A mark for each document. It doesn't allocate.
 #[derive(Drop)]
 pub(crate) struct LaidOut {
     marks: [bool; MOST_DOCUMENTS],

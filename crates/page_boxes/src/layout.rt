@@ -1,4 +1,4 @@
-//! Laying out a page over the boxes that are kept: what is due is computed, document by document.
+//! Layout of a page over the cached boxes: what is due is recomputed, document by document.
 
 ghost use Rattle.std.specs.Prelude.{◌≡◌, ◌≢◌, ℕ, ◌+◌, ◌<◌, ◌≤◌, ◌∷◌, [], true, false, Some, length, unsigned_abs};
 ghost use Rattle.page_model.specs.Documents.{first_of_list, is_active};
@@ -23,7 +23,7 @@ use px_units::Size;
 use std::sync::ledger::Ledger;
 use step_count::Steps;
 
-// What a root element takes from the viewport (CSS 2.2, 10.1).
+// Returns the inputs of a root element, from the viewport (CSS 2.2, 10.1).
 fn root_inputs(viewport: Size) -> Inputs
     ensures seen { seen_inputs result ≡ record { width = unsigned_abs viewport.width; height = Some (unsigned_abs viewport.height); flow = true } }
     ensures flow { result.flow ≡ true }
@@ -35,7 +35,7 @@ fn root_inputs(viewport: Size) -> Inputs
     }
 }
 
-// Computes what is due of the boxes of an Active document, once those of the document around it are up to date.
+// Recomputes the boxes that are due in an Active document, once those of the document that its frame is in are up to date.
 fn lay_out<L: Ledger>(
     boxes: &mut Kept,
     page: &PageTree,
@@ -96,7 +96,8 @@ fn lay_out_once<L: Ledger>(
     laid_out.mark(document);
 }
 
-// Lays out a document after the documents around it, each that isn't marked yet, following `high` frames at most, which lead up to `top`.
+// Lays out a document after its ancestor documents, each unless it is already marked, following at most `high` frames, which
+// lead up to `top`.
 fn lay_out_up<L: Ledger>(
     boxes: &mut Kept,
     page: &PageTree,
@@ -137,9 +138,9 @@ fn lay_out_up<L: Ledger>(
     }
 }
 
-/// Computes what is due of the page's boxes, with this screen of `top`: each box of the page is then held as it is
-/// now, and none is due. What is kept fits the page before, and afterwards. It takes at most one step for each box that was due,
-/// sets no mark, drops no box, and takes no memory.
+/// Recomputes the page's boxes that are due, for this screen of `top`: each box of the page is then up to date, and none is
+/// due. Requires that the cache is sound for the page, and keeps it so. It takes at most one step for each box that was due,
+/// sets no mark, drops no box, and doesn't allocate.
 pub fn refresh<L: Ledger>(boxes: &mut Kept, page: &PageTree, screen: Screen, steps: &mut Steps<L>)
     requires { AreKept page.now.tree boxes.old }
     ensures fresh { IsFresh page.now.tree (seen_screen screen) boxes.new }
@@ -164,8 +165,8 @@ pub fn refresh<L: Ledger>(boxes: &mut Kept, page: &PageTree, screen: Screen, ste
     }
 }
 
-// Computes what is due of the boxes of a document, where it is Active, and of the documents around it: with it they are no more than the
-// 64 that a page may have.
+// Recomputes the boxes that are due in a document, if it is Active, and in its ancestor documents: together they are at most
+// the 64 documents that a page may have.
 fn refresh_document<L: Ledger>(
     boxes: &mut Kept,
     page: &PageTree,
@@ -188,10 +189,10 @@ fn refresh_document<L: Ledger>(
     lay_out_up(boxes, page, screen, document, count, &mut laid_out, steps);
 }
 
-/// Computes what is due of the boxes of a document and of the documents around it, with this screen of `top`: those of the document and
-/// of the one that its frame is in are then held as they are now, and boxes of other documents aren't touched. A document that isn't
-/// Active has no box, and those of the documents around its frame are computed. What is kept fits the page before, and afterwards. It
-/// takes at most one step for each box that was due, and no memory.
+/// Recomputes the boxes that are due in a document and its ancestor documents, for this screen of `top`: those of the
+/// document and of the one that its frame is in are then up to date, and boxes of other documents are unchanged. A document
+/// that isn't Active has no boxes; those of its ancestor documents are recomputed. Requires that the cache is sound for the
+/// page, and keeps it so. It takes at most one step for each box that was due, and doesn't allocate.
 pub fn refresh_in<L: Ledger>(
     boxes: &mut Kept,
     page: &PageTree,
@@ -215,9 +216,10 @@ pub fn refresh_in<L: Ledger>(
     }
 }
 
-/// Computes what is due of the boxes that a reading of an element or a document rests on, with this screen of `top`:
-/// those of one document and of the documents around it are then held as they are now, and boxes of other documents aren't touched.
-/// What is kept fits the page before, and afterwards. It takes at most one step for each box that was due, and no memory.
+/// Recomputes the boxes that are due and that a reading of an element or a document depends on, for this screen of `top`:
+/// those of one document and its ancestor documents are then up to date, and boxes of other documents are unchanged. Requires
+/// that the cache is sound for the page, and keeps it so. It takes at most one step for each box that was due, and doesn't
+/// allocate.
 pub fn refresh_for<L: Ledger>(
     boxes: &mut Kept,
     page: &PageTree,

@@ -1,5 +1,5 @@
-//! A lower bound of how far elements and viewports can be scrolled: as far as one box reaches by itself. A stored position within it is in
-//! force, and nothing else has to be measured.
+//! Lower bounds of the scroll ranges of elements and viewports: as far as a single box reaches. A stored position within it
+//! is in force, and nothing else has to be measured.
 
 ghost use Rattle.std.specs.Prelude.{◌≡◌, ◌+◌, ◌-◌, ◌<◌, ◌≤◌, pos, cond, true, Some, None, length, is_some, unsigned_abs};
 ghost use Rattle.px_units.specs.Lengths.{cap};
@@ -33,7 +33,7 @@ const NO_SIZE: Size = Size {
     height: 0,
 };
 
-// The end of a length that begins at `corner`, counted from `less`.
+// Returns the end of a length that begins at `corner`, relative to `less`.
 fn end(corner: u64, length: i64, less: i64) -> i64
     requires { corner ≤ 2147483647 }
     ensures { result ≡ pos (cap (corner + unsigned_abs length - unsigned_abs less)) }
@@ -41,7 +41,7 @@ fn end(corner: u64, length: i64, less: i64) -> i64
     capped((corner + length.unsigned_abs()).saturating_sub(less.unsigned_abs())) as i64
 }
 
-// The right and bottom edges of a border box at a corner, counted from a point.
+// Returns the right and bottom edges of a border box at a corner, relative to a point.
 fn edges(corner: Shift, own: &BoxOf, from: Point) -> Size
     requires across { corner.across ≤ 2147483647 }
     requires down { corner.down ≤ 2147483647 }
@@ -54,7 +54,7 @@ fn edges(corner: Shift, own: &BoxOf, from: Point) -> Size
     }
 }
 
-// The range of the viewport in which a root element is shown by the border box of that element alone.
+// Returns a lower bound of the range of the viewport in which a root element is shown, from the border box of that element.
 pub(crate) fn root_range<P: Styled>(tree: &Tree<P>, boxes: &Kept, shown: ShownRoot) -> Size
     requires { shown.root.0 < length tree.now.nodes }
     ensures within { let at = layout_tree P.style P.kind tree.now.nodes in (at shown.root.0).parent ≡ None → (view : View) →
@@ -72,7 +72,7 @@ pub(crate) fn root_range<P: Styled>(tree: &Tree<P>, boxes: &Kept, shown: ShownRo
     range_between(edges(corner, &own, ORIGIN), shown.size)
 }
 
-// Whether the style of a node says `position: static`, which leaves its box in the flow where it stands.
+// Whether the style of a node has `position: static`, so that its box is at its static position.
 fn is_static<P: Styled>(tree: &Tree<P>, node: NodeId) -> bool
     requires { node.0 < length tree.now.nodes }
     ensures { result ≡ is_static ((layout_tree P.style P.kind tree.now.nodes node.0).item.style.position) }
@@ -83,7 +83,7 @@ fn is_static<P: Styled>(tree: &Tree<P>, node: NodeId) -> bool
     }
 }
 
-// The range of a node that has a box by the border box of its last child alone, where that one is static.
+// Returns a lower bound of the range of a node that has a box, from the border box of its last child if that is static.
 pub(crate) fn last_range<P: Styled>(tree: &Tree<P>, boxes: &Kept, node: NodeId) -> Size
     requires { node.0 < length tree.now.nodes }
     ensures within { let at = layout_tree P.style P.kind tree.now.nodes in (view : View) →
@@ -100,7 +100,7 @@ pub(crate) fn last_range<P: Styled>(tree: &Tree<P>, boxes: &Kept, node: NodeId) 
     }
 }
 
-// The range of a scroll container by the border box of a child alone, where that one is static.
+// Returns a lower bound of the range of a scroll container, from the border box of a child if that is static.
 fn range_to<P: Styled>(tree: &Tree<P>, boxes: &Kept, node: NodeId, child: NodeId) -> Size
     requires node { node.0 < length tree.now.nodes }
     requires child { child.0 < length tree.now.nodes }

@@ -1,10 +1,11 @@
-//! The boxes of a page's documents: whether an element has one, sizes, the size of a document's viewport, and in one document places,
-//! how far a box or the viewport can be scrolled and is scrolled (CSS 2.2, 8 to 11; CSS Overflow 3, 2.2; CSSOM View, 4 to 6). All
-//! lengths are in units of 1/64 CSS pixel.
+//! The boxes of a page's documents: whether an element has one, sizes, the size of a document's viewport, and within one
+//! document places, scroll ranges and scroll offsets (CSS 2.2, 8 to 11; CSS Overflow 3, 2.2; CSSOM View, 4 to 6). All lengths
+//! are in units of 1/64 CSS pixel.
 //!
-//! The boxes are kept beside the page in a `Kept`, which gets a slot for each element as it is made, and marks where the page
-//! changes. `refresh` computes what is due in all documents, `refresh_in` in one and those around it, and `refresh_for` what one
-//! reading rests on; a reading makes no box and takes no memory. The stored scroll positions are handed in.
+//! The boxes are cached beside the page in a `Kept`, which gets a slot for each element when it is created, and marks where
+//! the page changes. `refresh` recomputes what is due in all documents, `refresh_in` in one and its ancestor documents, and
+//! `refresh_for` what one reading depends on; a reading computes no box and doesn't allocate, except `boxed_offsets`. The
+//! stored scroll positions are supplied by the caller.
 #![tactic(auto)]
 
 mod climb;

@@ -1,4 +1,4 @@
-//! How far what holds a box is scrolled, and where it is then (CSS 2.2, 9.4.1 and 10.1; CSSOM View, 6).
+//! How far the holders of a box are scrolled, and its place then (CSS 2.2, 9.4.1 and 10.1; CSSOM View, 6).
 
 ghost use Rattle.std.specs.Prelude.{◌≡◌, ◌*◌, ◌<◌, ◌≤◌, ℕ, true, cond, length, IfSome, is_some, unsigned_abs};
 ghost use Rattle.layout_model.specs.Nodes.{holders_of, is_on_screen};
@@ -34,7 +34,7 @@ fn unsigned(offset: Point) -> Shift
     }
 }
 
-// The scroll offset in force of a node that has a box.
+// Returns the scroll offset in force of a node that has a box.
 fn own_scroll<P: Styled>(
     tree: &Tree<P>,
     boxes: &Kept,
@@ -95,7 +95,7 @@ fn scrolled<P: Styled>(
     HolderScroll { shift, on_screen }
 }
 
-// A flat place, moved back by how far the elements that hold the box and the viewport are scrolled.
+// Moves a flat place back by the scroll offsets of the elements that hold the box and of the viewport.
 fn moved_back(place: Point, inner: Shift, view: Shift) -> Point
     requires left { IsNear 256 place.left }
     requires top { IsNear 256 place.top }
@@ -113,7 +113,7 @@ fn moved_back(place: Point, inner: Shift, view: Shift) -> Point
     }
 }
 
-// How far a viewport's scroll offset moves a box: not at all where the screen holds it.
+// Returns how far a viewport's scroll offset moves a box: 0 if the screen is its outermost holder.
 fn view_shift(view: Point, on_screen: bool) -> Shift
     requires { IsOffset view }
     ensures left { result.across ≡ cond on_screen 0 (unsigned_abs view.left) }
@@ -128,12 +128,12 @@ fn view_shift(view: Point, on_screen: bool) -> Shift
     }
 }
 
-/// The place of the border box of a node that has a box, in its document's viewport that is scrolled so far (CSSOM View, 6:
-/// `getBoundingClientRect`). Exact as long as the boxes in its view are up to date (`refresh_in`) and no length of the view is above the
-/// largest one. No memory.
+/// Returns the place of the border box of a node that has a box, in its document's viewport, `view` being the viewport's
+/// scroll offset (CSSOM View, 6: `getBoundingClientRect`). Exact if the boxes of its document are up to date
+/// (`refresh_in`) and no length of the viewport is above the largest one. Doesn't allocate.
 ///
-/// It goes up by the boxes of the node, its ancestors and those that hold it alone, with the heights that are kept above each; what is
-/// scrolled on the way is measured where its offset wasn't found before (`boxed_offsets`).
+/// It visits the boxes of the node, its ancestors and its holders alone, with the cached height above each; scroll offsets on
+/// the way are measured unless they are in `found` (`boxed_offsets`).
 pub fn place_in<P: Styled>(
     tree: &Tree<P>,
     boxes: &Kept,

@@ -1,4 +1,4 @@
-//! How far elements and viewports can be scrolled (CSS Overflow 3, 2.2; CSSOM View: scrolling area).
+//! The scroll ranges of elements and viewports (CSS Overflow 3, 2.2; CSSOM View: scrolling area).
 
 ghost use Rattle.std.specs.Prelude.{◌≡◌, ◌<◌, ◌-◌, pos, cond, true, Some, None, length, is_some, unsigned_abs};
 ghost use Rattle.px_units.specs.Lengths.{cap};
@@ -30,14 +30,14 @@ const NO_SIZE: Size = Size {
     height: 0,
 };
 
-/// Whether an element is a scroll container with a box (CSS Overflow 3, 3.1). A root element is none.
+/// Whether an element is a scroll container with a box (CSS Overflow 3, 3.1). False for a root element.
 pub fn is_scroller(page: &PageTree, node: NodeId) -> bool
     ensures { (screen : WorldScreen) → result ≡ is_scroller page.now.tree screen node.0 }
 {
     has_box(page, node) && is_scroll_container(page.tree(), node)
 }
 
-// How much of a reach is beyond what is shown.
+// Returns how far a reach extends beyond what is shown.
 fn behind(reach: i64, shown: i64) -> i64
     ensures value { result ≡ pos (cap (unsigned_abs reach - unsigned_abs shown)) }
     ensures range { IsLength result }
@@ -45,7 +45,7 @@ fn behind(reach: i64, shown: i64) -> i64
     capped(reach.unsigned_abs().saturating_sub(shown.unsigned_abs())) as i64
 }
 
-// The scrolling range, by how far something reaches and how much of it is shown.
+// Returns the scroll range, from the size of the content and of the part that is shown.
 pub(crate) fn range_between(reach: Size, shown: Size) -> Size
     ensures value { result ≡ as_size (capped (minus (seen_pair reach) (seen_pair shown))) }
     ensures range { IsRange result }
@@ -56,11 +56,11 @@ pub(crate) fn range_between(reach: Size, shown: Size) -> Size
     }
 }
 
-/// The scrolling range of a node that has a box (CSS Overflow 3, 2.2; CSSOM View: scrolling area): how far its content reaches beyond its
-/// padding box, 0 by 0 where it isn't a scroll container. Exact as long as the boxes in its view are up to date (`refresh_in`) and no
-/// length of the view is above the largest one. No memory.
+/// Returns the scroll range of a node that has a box (CSS Overflow 3, 2.2; CSSOM View: scrolling area): how far its content
+/// overflows its padding box, 0 by 0 if it isn't a scroll container. Exact if the boxes of its document are up to date
+/// (`refresh_in`) and no length of the viewport is above the largest one. Doesn't allocate.
 ///
-/// It calls itself once a level of the tree below.
+/// It recurses once per level of the tree below.
 pub fn boxed_range<P: Styled>(tree: &Tree<P>, boxes: &Kept, node: NodeId) -> Size
     requires { node.0 < length tree.now.nodes }
     ensures value { let at = layout_tree P.style P.kind tree.now.nodes in (view : View) → IsSized view →
@@ -78,10 +78,10 @@ pub fn boxed_range<P: Styled>(tree: &Tree<P>, boxes: &Kept, node: NodeId) -> Siz
     range_between(reach, own.padding_size())
 }
 
-/// The scrolling range of the viewport in which a root element is shown (CSSOM View: scrolling area): how far the content reaches beyond
-/// the viewport. Exact as long as the boxes in its view are up to date (`refresh_in`). No memory.
+/// Returns the scroll range of the viewport in which a root element is shown (CSSOM View: scrolling area): how far the
+/// content overflows the viewport. Exact if the boxes of the document are up to date (`refresh_in`). Doesn't allocate.
 ///
-/// It calls itself once a level of the tree below.
+/// It recurses once per level of the tree below.
 pub fn shown_range<P: Styled>(tree: &Tree<P>, boxes: &Kept, shown: ShownRoot) -> Size
     requires root { shown.root.0 < length tree.now.nodes }
     requires size { IsNatural shown.size }

@@ -1,4 +1,4 @@
-//! What is read of an element's box where only the boxes of its document are up to date.
+//! What can be read of an element's box while only the boxes of its document are up to date.
 
 ghost use Rattle.std.specs.Prelude.{◌≡◌};
 ghost use Rattle.page_model.specs.Lookups.{element_at};
@@ -20,9 +20,9 @@ const NO_SIZE: Size = Size {
     height: 0,
 };
 
-/// The size of an element's content box or border box in units of 1/64 CSS pixel (CSS 2.2, 8.1), or of its content box in device pixels of
-/// this screen of `top`, to the nearest one, a half upwards; 0 by 0 without a box. Exact as long as the boxes of its document are up to
-/// date (`refresh_in`). No memory.
+/// Returns the size of an element's content box or border box in units of 1/64 CSS pixel (CSS 2.2, 8.1), or of its content
+/// box in device pixels of this screen of `top`, rounded to the nearest pixel, halves up; 0 by 0 without a box. Exact if
+/// the boxes of its document are up to date (`refresh_in`). Doesn't allocate.
 pub fn size_of(page: &PageTree, boxes: &Kept, screen: Screen, node: NodeId, kind: BoxKind) -> Size
     requires { IsScreen screen }
     ensures value { IsFreshIn page.now.tree (seen_screen screen) boxes.now (element_at page.now.tree node.0).document →

@@ -1,4 +1,4 @@
-//! What the top document is shown on, and sizes in its device pixels.
+//! The screen of the top document, and sizes in its device pixels.
 
 ghost use Rattle.std.specs.Prelude.{◌≡◌, pos, unsigned_abs};
 ghost use Rattle.style_values.specs.Ranges.{IsHundredths};
@@ -19,11 +19,11 @@ const UNITS: u64 = 640_000;
 pub struct Screen {
     /// The size of the viewport, in units of 1/64 CSS pixel.
     pub size: Size,
-    /// How many device pixels a CSS pixel is, from 0 to 10,000 percent (`devicePixelRatio`).
+    /// The number of device pixels per CSS pixel, from 0 to 10,000 percent (`devicePixelRatio`).
     pub ratio: Percent,
 }
 
-// The nearest whole number of device pixels along a length in units, a half upwards.
+// Returns the nearest whole number of device pixels for a length in units, halves up.
 fn device_pixels(ratio: Percent, units: i64) -> i64
     requires ratio { IsHundredths ratio.0 }
     requires units { IsLength units }
@@ -47,8 +47,9 @@ fn in_device_pixels(ratio: Percent, size: Size) -> Size
     }
 }
 
-/// The size of a box on this screen: of the content box or the border box in units of 1/64 CSS pixel (CSS 2.2, 8.1), or of the content
-/// box in device pixels, to the nearest one, a half upwards (Resize Observer, 3.4: calculate box size).
+/// Returns the size of a box on this screen: of the content box or the border box in units of 1/64 CSS pixel (CSS 2.2, 8.1),
+/// or of the content box in device pixels, rounded to the nearest pixel, halves up (Resize Observer, 3.4: calculate box
+/// size).
 pub fn size_on(screen: Screen, own: &BoxOf, kind: BoxKind) -> Size
     requires { IsScreen screen }
     ensures value { result ≡ as_size (size_by (unsigned_abs screen.ratio.0) kind own.now) }

@@ -6,7 +6,8 @@ use Rattle.page_model.specs.Lookups.{element_at, document_at, is_listed}
 use Rattle.page_model.specs.Documents.{first_of_list, frame_levels, is_active, is_number, nodes_of, stands_in_active}
 use Rattle.page_documents.specs.Paths.{path_to}
 
--- the elements make trees: each is a child of its parent and of nothing else, and no tree has more levels than are looked at
+-- the elements form trees: each is a child of its parent and of nothing else, and no tree has more levels than the definitions
+-- look at
 pub record MakeTrees (tree : Tree) : Type 0 where
   pub children : (parent n : ℕ) → is_listed n (element_at tree parent).children ≡ is_number (element_at tree n).parent parent
   pub shallow : IsShallow (nodes_of tree)
@@ -30,9 +31,9 @@ pub record IsTopmost (tree : Tree) : Type 0 where
   pub active : is_active tree 0 ≡ true
   pub unframed : (document_at tree 0).frame ≡ None
 
--- besides, each Active document but the top one has its frame in the tree of an Active document, and from each of them the way
--- from frame to frame leads up to the top one. So no Active document is in a frame of an element that stands nowhere, and
--- documents in frames of one another aren't Active. There are no more documents than frames are followed in a row
+-- besides, the frame of each Active document but the top one is in the tree of an Active document, and from each of them the way
+-- from frame to frame leads up to the top one. So no Active document is in a frame that is in no document's tree, and documents
+-- in frames of one another aren't Active. There are no more documents than frames are followed in a row
 pub record AreFramed (tree : Tree) : Type 0 where
   pub trees : MakeTrees tree
   pub owners : HaveOwners tree

@@ -1,4 +1,4 @@
--- The way from a document up to the top one, from the document to the one that holds its frame.
+-- The way from a document up to the top one, each step from a document to the one that holds its frame.
 use Rattle.std.specs.Prelude.{ℕ, zero, suc, List, [], ◌∷◌, ◌++◌, length, Option, Some, None, option_map, slice_get}
 use Rattle.page_model.specs.World.{Element, Tree}
 use Rattle.page_model.specs.Lookups.{document_at}
@@ -20,7 +20,8 @@ unfoldable pub way_down : ℕ → Tree → ℕ → List ℕ
 way_down zero tree document = []
 way_down (suc high) tree document = way_above (way_down high tree) (holder_of tree document) ++ document ∷ []
 
--- the documents from the top one to this, each the one that holds the frame of the next: no document is on it twice
+-- the documents from the top one to this one, each the one that holds the frame of the next. No document is on this path twice,
+-- so that it is no longer than the list of documents
 unfoldable pub path_to : Tree → ℕ → List ℕ
 unfolding way_down
 path_to tree document = way_down (length tree.documents) tree document

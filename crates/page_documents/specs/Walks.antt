@@ -12,11 +12,11 @@ held_in tree (Some n) = option_map (λ (element : Element). n) (slice_get tree.e
 abbrev pub root_held : Tree → ℕ → Option ℕ
 root_held tree document = held_in tree (document_at tree document).root
 
--- the documents of the frames among an element and its descendants, of so many levels that are looked at
+-- the documents of the frames among an element and its descendants, down to so many levels
 unfoldable pub frames_down : ℕ → Tree → ℕ → List ℕ
 frames_down high tree n = filter_map (λ each. (element_at tree each).framed) (order_down high tree n)
 
--- what is come to once these are taken in turn
+-- the result of taking these in turn
 abbrev pub taken : {S : Type 0} → (ℕ → S → S) → List ℕ → S → S
 taken with [] found = found
 taken with (document ∷ documents) found = taken with documents (with document found)
@@ -25,7 +25,7 @@ taken with (document ∷ documents) found = taken with documents (with document 
 abbrev pub no_marks : List Bool
 no_marks = replicate 64 false
 
--- the entries at marked places changed
+-- a list with the entries at marked places changed
 abbrev pub marked_in : {A : Type 0} → (A → A) → List Bool → List A → List A
 marked_in change [] xs = xs
 marked_in change (mark ∷ marks) [] = []

@@ -1,4 +1,4 @@
-//! Adoption of a subtree, and whether an element is shown.
+//! Adoption of a subtree, and whether an element is in the tree of an Active document.
 
 ghost use Rattle.std.specs.Prelude.{◌≡◌, ◌<◌, List, [], length, option_map};
 ghost use Rattle.element_tree.specs.Documents.{document_number};
@@ -15,7 +15,7 @@ use crate::finding::{LEVELS, is_in};
 use crate::owned::Owned;
 use element_tree::{DocumentId, NodeId, Tree};
 
-// Gives an element and its descendants to a document (DOM, 4.5: adopt).
+// Sets the node document of an element and its descendants (DOM, 4.5: adopt).
 pub(crate) fn adopt<P: Owned>(tree: &mut Tree<P>, node: NodeId, document: DocumentId)
     requires { node.0 < length tree.old.nodes }
     ensures adopted { tree.new ≡ adopted_in P.carried P.adopted document.0 node.0 tree.old }
@@ -25,7 +25,7 @@ pub(crate) fn adopt<P: Owned>(tree: &mut Tree<P>, node: NodeId, document: Docume
     adopt_down(tree, node, LEVELS, document);
 }
 
-// At most `high` levels are looked at.
+// The same for at most `high` levels.
 fn adopt_down<P: Owned>(tree: &mut Tree<P>, node: NodeId, high: u32, document: DocumentId)
     requires { node.0 < length tree.old.nodes }
     ensures { tree.new ≡ with_nodes (change_each (adopting P.adopted document.0) (order_down high (seen_tree P.carried tree.old []) node.0)) tree.old }
@@ -41,7 +41,7 @@ fn adopt_down<P: Owned>(tree: &mut Tree<P>, node: NodeId, high: u32, document: D
     }
 }
 
-// The root of the tree that an element stands in.
+// Returns the root of the tree that contains an element.
 fn top_of<P: Owned>(tree: &Tree<P>, node: NodeId) -> NodeId
     requires { node.0 < length tree.now.nodes }
     ensures value { result.0 ≡ root_of (seen_tree P.carried tree.now []) node.0 }
@@ -69,7 +69,7 @@ fn is_root_element<P: Owned>(entries: &[Entry], tree: &Tree<P>, node: NodeId) ->
     }
 }
 
-// The document in whose tree an element stands, none where it stands in no document's tree.
+// Returns the document whose tree contains an element, `None` if it is in no document's tree.
 pub(crate) fn tree_document<P: Owned>(
     entries: &[Entry],
     tree: &Tree<P>,
@@ -85,7 +85,7 @@ pub(crate) fn tree_document<P: Owned>(
     Some(tree.payload(node).document())
 }
 
-// Whether an element stands in the tree of an Active document.
+// Whether an element is in the tree of an Active document.
 pub(crate) fn stands_in_active<P: Owned>(entries: &[Entry], tree: &Tree<P>, node: NodeId) -> bool
     requires { node.0 < length tree.now.nodes }
     ensures value { result ≡ stands_in_active (seen_tree P.carried tree.now entries.now) node.0 }

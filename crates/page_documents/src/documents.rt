@@ -27,10 +27,10 @@ use smallvec::SmallVec;
 use std::alloc::{AllocError, Global};
 use std::marker::Model;
 
-/// The documents of a page by number, from 0 in order of making: `top` is number 0, and each other one belongs to a frame.
-/// A clause sees them as the definitions of a world do.
+/// The documents of a page by number, from 0 in creation order: `top` is number 0, and each other one belongs to a frame.
+/// Contracts see them as the definitions of a world do.
 ///
-/// A frame's document, a frame or a root element that isn't there counts as none.
+/// A frame's document, a frame or a root element that doesn't exist is treated as absent.
 #[derive(Drop)]
 pub struct Documents {
     held: Vec<Entry>,
@@ -49,12 +49,12 @@ impl Model for Documents {
 }
 
 impl Documents {
-    /// The document `top` alone, which is Active. At most `most` documents are held, from 1 to 64; the room for all of them is
-    /// made here.
+    /// Creates the document `top`, which is Active. There can be at most `most` documents, from 1 to 64; capacity for all of
+    /// them is reserved here.
     ///
     /// # Errors
     ///
-    /// Where there is no memory.
+    /// If an allocation fails.
     pub fn new(alloc: Global, most: u32) -> Result<Documents, AllocError>
         requires least { 1 ≤ most }
         requires bounded { most ≤ 64 }
@@ -65,15 +65,15 @@ impl Documents {
         Ok(Documents { held, most })
     }
 
-    /// Whether as many documents are held as may be, so that no further one can be made.
+    /// Whether the maximum number of documents exists, so that no further one can be created.
     pub fn is_full(&self) -> bool
         ensures { result ≡ not (has_room self.now) }
     {
         self.count() >= self.most
     }
 
-    /// Makes a Fresh document for a frame, and gives its name, whose number is `count` before (HTML, 7.3: content navigables). It
-    /// takes no memory. There has to be room for it, as `is_full` tells.
+    /// Creates a Fresh document for a frame, and returns its id, whose number is the previous `count` (HTML, 7.3: content
+    /// navigables). It doesn't allocate. Requires that the maximum isn't reached (`is_full`).
     pub fn make(&mut self, frame: NodeId) -> DocumentId
         requires { has_room self.old ≡ true }
         ensures number { result.0 ≡ length self.old.held }
@@ -84,7 +84,7 @@ impl Documents {
         document
     }
 
-    /// How many documents are held, which is never more than `most`.
+    /// Returns the number of documents, which never exceeds `most`.
     pub fn count(&self) -> u32
         ensures value { result ≡ length self.now.held }
         ensures bound { length self.now.held ≤ self.now.most }
@@ -92,7 +92,7 @@ impl Documents {
         self.held.len() as u32
     }
 
-    /// The state of a document.
+    /// Returns the state of a document.
     pub fn state(&self, document: DocumentId) -> DocumentState
         requires { document.0 < length self.now.held }
         ensures { seen_state result ≡ (entry_or no_document self.now.held document.0).state }
@@ -100,7 +100,7 @@ impl Documents {
         self.held[document.0 as usize].state()
     }
 
-    /// The frame of a document. None exactly for `top`.
+    /// Returns the frame of a document, `None` exactly for `top`.
     pub fn frame_of(&self, document: DocumentId) -> Option<NodeId>
         requires { document.0 < length self.now.held }
         ensures value { option_map number result ≡ (entry_or no_document self.now.held document.0).frame }
@@ -110,7 +110,7 @@ impl Documents {
         self.held[document.0 as usize].frame()
     }
 
-    /// The root element of a document, none where it has none (DOM, 4.5: document element).
+    /// Returns the root element of a document, `None` if it has none (DOM, 4.5: document element).
     pub fn root_of(&self, document: DocumentId) -> Option<NodeId>
         requires { document.0 < length self.now.held }
         ensures { option_map number result ≡ (entry_or no_document self.now.held document.0).root }
@@ -118,7 +118,7 @@ impl Documents {
         self.held[document.0 as usize].root()
     }
 
-    /// Makes an element the root element of a document, or leaves it with none.
+    /// Sets or clears the root element of a document.
     pub fn set_root(&mut self, document: DocumentId, root: Option<NodeId>)
         requires { document.0 < length self.old.held }
         ensures { self.new ≡ changing (λ it. record it { root = option_map number root }) document.0 self.old }
@@ -126,7 +126,8 @@ impl Documents {
         self.held[document.0 as usize].set_root(root);
     }
 
-    /// The document in whose tree an element stands, none where it stands in no document's tree (DOM, 4.2.1: in a document tree).
+    /// Returns the document whose tree contains an element, `None` if it is in no document's tree (DOM, 4.2.1: in a document
+    /// tree).
     pub fn tree_document<P: Owned>(&self, tree: &Tree<P>, node: NodeId) -> Option<DocumentId>
         requires { node.0 < length tree.now.nodes }
         ensures { option_map document_number result ≡ tree_document (seen_tree P.carried tree.now self.now.held) node.0 }
@@ -134,8 +135,9 @@ impl Documents {
         tree_document(self.held.as_slice(), tree, node)
     }
 
-    /// The subtree of an element is taken out of the tree of a document: where that is Active, the Active documents in frames of
-    /// the subtree become Dead for good, with those inside. It may be called before or after the element is taken out.
+    /// Updates the documents for the removal of an element with its subtree from the tree of a document: if that is Active,
+    /// the Active documents in frames of the subtree become Dead for good, recursively. It may be called before or after the
+    /// element is removed.
     pub fn left<P: Owned>(&mut self, tree: &Tree<P>, node: NodeId, document: DocumentId)
         requires { node.0 < length tree.now.nodes }
         ensures ended { self.new ≡ ending (is_active (seen_tree P.carried tree.now self.old.held) document.0) (seen_tree P.carried tree.now self.old.held) node.0 self.old }
@@ -147,9 +149,9 @@ impl Documents {
         }
     }
 
-    /// The subtree of an element was inserted under a document or under an element of this node document: it is adopted (DOM,
-    /// 4.5), and where it stands in the tree of an Active document, the Fresh documents in frames of it become Active, with those
-    /// inside. Documents of frames in it keep their own elements.
+    /// Updates elements and documents after the insertion of an element with its subtree into a document, or into an element
+    /// with this node document: the subtree is adopted (DOM, 4.5), and if it is in the tree of an Active document, the Fresh
+    /// documents in its frames become Active, recursively. Elements of documents in its frames aren't adopted.
     pub fn entered<P: Owned>(&mut self, tree: &mut Tree<P>, node: NodeId, document: DocumentId)
         requires { node.0 < length tree.old.nodes }
         ensures adopted { tree.new ≡ adopted_in P.carried P.adopted document.0 node.0 tree.old }
@@ -165,11 +167,11 @@ impl Documents {
         }
     }
 
-    /// The Active documents by preorder of the frame tree, the frames of one document in tree order.
+    /// Returns the Active documents in preorder of the frame tree, the frames of one document in tree order.
     ///
     /// # Errors
     ///
-    /// Where there is no memory.
+    /// If an allocation fails.
     pub fn active<P: Owned>(&self, tree: &Tree<P>) -> Result<Vec<DocumentId>, AllocError>
         ensures { IfOk result (λ found. document_numbers found.items ≡ active_documents (seen_tree P.carried tree.now self.now.held)) }
     {
@@ -185,7 +187,7 @@ impl Documents {
         Ok(found.into_documents())
     }
 
-    /// The documents from `top` to this one, each the one that holds the frame of the next. It takes no memory.
+    /// Returns the documents from `top` to this one, each containing the frame of the next. It doesn't allocate.
     pub fn path<P: Owned>(&self, tree: &Tree<P>, document: DocumentId) -> SmallVec<DocumentId, 64>
         requires { document.0 < length self.now.held }
         ensures path { document_numbers result.items ≡ path_to (seen_tree P.carried tree.now self.now.held) document.0 }
@@ -197,7 +199,7 @@ impl Documents {
         path
     }
 
-    // Appends the last documents of the way down to a document, at most so many.
+    // Appends the last documents of the path down to a document, at most `high`.
     fn climb<P: Owned>(
         &self,
         tree: &Tree<P>,
@@ -219,7 +221,7 @@ impl Documents {
         path.push_reserved(document);
     }
 
-    // The document that holds the frame of a document, if there is one.
+    // Returns the document that contains the frame of a document, if there is one.
     fn holder_of<P: Owned>(&self, tree: &Tree<P>, document: DocumentId) -> Option<DocumentId>
         ensures { option_map document_number result ≡ holder_of (seen_tree P.carried tree.now self.now.held) document.0 }
     {
@@ -231,7 +233,7 @@ impl Documents {
         }
     }
 
-    // The documents in a state that frames in the subtree of an element lead to come into another state.
+    // Changes the state of all documents that are in a given state and in frames of an element's subtree, recursively.
     fn change_inside<P: Owned>(
         &mut self,
         tree: &Tree<P>,

@@ -1,4 +1,4 @@
-//! What is kept of one document.
+//! One document.
 
 ghost use Rattle.std.specs.Prelude.{◌≡◌, option_map, Some, None};
 ghost use Rattle.element_tree.specs.Links.{number};
@@ -9,14 +9,14 @@ ghost use Rattle.page_documents.specs.States.{seen_state, is_in, put_in};
 use element_tree::NodeId;
 use std::marker::Model;
 
-/// How far the life of a document has come.
+/// The state in the life cycle of a document.
 #[derive(Clone, Copy, Debug, PartialEq, Eq)]
 pub enum DocumentState {
-    /// Its frame never stood in the tree of an Active document.
+    /// Its frame was never in the tree of an Active document.
     Fresh,
-    /// It is shown: `top`, or a document whose frame stands in the tree of an Active document.
+    /// `top`, or a document whose frame is in the tree of an Active document (HTML: fully active).
     Active,
-    /// Its frame was taken out of the tree of an Active document. It stays so for good.
+    /// Its frame was removed from the tree of an Active document (HTML: destroyed). This state is final.
     Dead,
 }
 
@@ -40,7 +40,7 @@ impl Model for Entry {
 }
 
 impl Entry {
-    // the document `top`
+    // The document `top`.
     pub(crate) fn top() -> Entry
         ensures { result ≡ record { state = Active; frame = None; root = None } }
     {
@@ -51,7 +51,7 @@ impl Entry {
         }
     }
 
-    // a document just made
+    // A new document in a frame.
     pub(crate) fn framed_by(frame: NodeId) -> Entry
         ensures { result ≡ new_document frame.0 }
     {

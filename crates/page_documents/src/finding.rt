@@ -15,11 +15,11 @@ use crate::found::Finder;
 use crate::owned::Owned;
 use element_tree::{DocumentId, NodeId, Tree};
 
-/// As many levels of a tree, and of frames in frames, are looked at: more than there can be.
+/// The bound on levels of a tree, and of nested frames, that are visited: more than there can be.
 pub(crate) const LEVELS: u32 = 65536;
 
-// Hands over, in tree order, the documents in a state that the frames among an element and its descendants lead to, each
-// followed by those inside. At most `high` levels of the tree and `deep` levels of frames are looked at.
+// Passes to the finder, in tree order, the documents in this state that the frames among an element and its descendants lead
+// to, each followed by those nested in it. Visits at most `high` levels of the tree and `deep` levels of frames.
 #[cycle(finding)]
 pub(crate) fn find_in<P: Owned, F: Finder>(
     entries: &[Entry],
@@ -54,7 +54,7 @@ pub(crate) fn find_in<P: Owned, F: Finder>(
     Ok(())
 }
 
-// Hands over a document, if there is one and it is in this state, and then those that frames in its tree lead to.
+// Passes a document to the finder, if there is one and it is in this state, and then those that frames in its tree lead to.
 #[cycle(finding)]
 pub(crate) fn find_from<P: Owned, F: Finder>(
     entries: &[Entry],
@@ -93,7 +93,7 @@ pub(crate) fn is_in(entries: &[Entry], document: DocumentId, state: DocumentStat
     }
 }
 
-// The root element of a document, if there is one in the tree.
+// Returns the root element of a document, if there is one in the tree.
 fn root_in<P: Owned>(entries: &[Entry], tree: &Tree<P>, document: DocumentId) -> Option<NodeId>
     ensures value { option_map number result ≡ root_held (seen_tree P.carried tree.now entries.now) document.0 }
     ensures held { IfSome result (λ root. root.0 < length tree.now.nodes) }

@@ -1,4 +1,4 @@
-//! What a walk over documents hands its finds to.
+//! What a walk over documents passes the documents to.
 
 ghost use Rattle.std.specs.Prelude.{◌≡◌, ℕ, ◌<◌, ◌++◌, ◌∷◌, [], OnOk, true, slice_set, get_or};
 ghost use Rattle.element_tree.specs.Documents.{document_numbers};
@@ -9,10 +9,10 @@ use std::alloc::{AllocError, Global};
 use std::convert::Infallible;
 use std::marker::Model;
 
-/// As many documents as are ever held.
+/// The largest number of documents that a page can have.
 pub const MOST_DOCUMENTS: usize = 64;
 
-// Takes the documents that a walk comes to, in its order.
+// Receives the documents that a walk reaches, in its order.
 pub(crate) trait Finder {
     type Fault: Drop;
 
@@ -23,7 +23,7 @@ pub(crate) trait Finder {
         ensures { OnOk result (self.new ≡ with document.0 self.old) };
 }
 
-// Documents in the order in which they are come to.
+// The documents reached, in order.
 #[derive(Drop)]
 pub(crate) struct Listed {
     documents: Vec<DocumentId>,
@@ -66,7 +66,7 @@ impl Finder for Listed {
     }
 }
 
-// The documents that are come to, in whatever order. It takes no memory.
+// The set of documents reached. It doesn't allocate.
 #[derive(Drop)]
 pub(crate) struct Marks {
     marks: [bool; MOST_DOCUMENTS],

@@ -1,5 +1,5 @@
-//! The documents of a page: the life of a document in a frame, and the tree that frames make of documents (HTML, 4.8.5 and
-//! 7.3; DOM, 4.2.3 and 4.5).
+//! The documents of a page: the life cycle of a document in a frame, and the tree of documents that frames form (HTML, 4.8.5
+//! and 7.3; DOM, 4.2.3 and 4.5).
 #![tactic(auto)]
 
 mod adoption;

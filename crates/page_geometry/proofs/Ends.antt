@@ -16,13 +16,10 @@ use Rattle.element_tree.specs.declared.container.Container.TheVariants.{Element,
 use Rattle.clip_chain.specs.Scenes.{Scene}
 use Rattle.clip_chain.specs.Chains.{Leads}
 use Rattle.clip_chain.specs.Worlds.{element_spot, spot_of, scene_of, view_spot}
+use Rattle.clip_chain.proofs.Worlds.{leads_on}
 use Rattle.page_geometry.specs.Ranks.{level_of, rank_of}
 use Rattle.page_geometry.proofs.Standing.{active, boxed_document, holder_boxed, holder_document}
 use Rattle.page_geometry.proofs.Levels.{level_more, level_some, level_most}
-
-pub leads_on : (b : Bool) (o : Option Container) (next : Container) → cond b o None ≡ Some next → (b ≡ true) × (o ≡ Some next)
-leads_on true o next is = (refl, is)
-leads_on false o next is = absurd (let no : ⊥ = cc in no)
 
 pub same_next : (a b : Container) → Some a ≡ Some b → a ≡ b
 same_next a b is = cc

@@ -19,6 +19,7 @@ use Rattle.element_tree.specs.declared.container.Container.TheVariants.{Element 
 use Rattle.clip_chain.specs.Scenes.{Scene}
 use Rattle.clip_chain.specs.Chains.{Leads, IsAbove}
 use Rattle.clip_chain.specs.Worlds.{element_spot, spot_of, spot_of_root, scene_of, view_spot}
+use Rattle.clip_chain.proofs.Worlds.{leads_on}
 use Rattle.candidate_index.specs.declared.scene.Standing.{Standing}
 use Rattle.candidate_index.specs.declared.scene.Standing.TheVariants as standings
 use Rattle.candidate_index.specs.Registrations.{IfChained}
@@ -28,7 +29,7 @@ use Rattle.kept_findings.specs.Walks.{EachAlong, AreChained, between_by, chain_b
 use Rattle.page_geometry.specs.Scenes.{IsPageTree, IsThere, standings_of, telling_of}
 use Rattle.page_geometry.proofs.Chains.{above}
 use Rattle.page_boxes.proofs.Pages.{made_if_boxed}
-use Rattle.page_geometry.proofs.Ends.{leads_on, same_next, few_between}
+use Rattle.page_geometry.proofs.Ends.{same_next, few_between}
 use Rattle.page_geometry.proofs.Missing.{at_least, past_end}
 
 -- what isn't past the end is there

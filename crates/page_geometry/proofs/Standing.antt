@@ -2,6 +2,7 @@
 -- frame around have boxes.
 use Rattle.std.proofs.Common.{◌≡◌, ℕ, Bool, true, false, cond, Option, Some, None, refl, ap, sym, ◌∙◌}
 use Rattle.std.specs.Prelude.{◌&&◌, not, is_some, option_map}
+use Rattle.std.proofs.lemmas.Bool.{and_parts}
 use Rattle.layout_model.specs.Boxes.{Inputs, box_in, content_size}
 use Rattle.layout_model.specs.Clips.{is_block}
 use Rattle.layout_model.specs.Nodes.{HeldByElement, holder}
@@ -18,7 +19,6 @@ use Rattle.page_documents.proofs.Shape.{from_parents, itself_below, child_below}
 use Rattle.page_documents.proofs.Standing.{document_top, document_below}
 use Rattle.page_boxes.proofs.Boxed.{boxed_below, boxed_top}
 use Rattle.page_boxes.proofs.Views.{view_idle, view_whole, view_root, view_is}
-use Rattle.page_boxes.proofs.Rooted.{second_true}
 use Rattle.page_boxes.proofs.Renewed.{none_is}
 
 none_in : (tree : Tree) (n : ℕ) → is_some (inputs_in_view (nodes_of tree) no_view n) ≡ false
@@ -61,8 +61,8 @@ module _ (tree : Tree) (screen : Screen) where
           its_number (document_at tree (element_at tree n).document).root n
           (view_root tree screen (element_at tree n).document n
           (number_is (view_of tree screen (element_at tree n).document).root n
-          (second_true (not (nodes_of tree n).item.style.hidden) _
-          (sym (boxed_top (nodes_of tree) (view_of tree screen (element_at tree n).document) n is) ∙ sym (boxed_in n) ∙ boxed))))
+          ((and_parts (not (nodes_of tree n).item.style.hidden) _
+          (sym (boxed_top (nodes_of tree) (view_of tree screen (element_at tree n).document) n is) ∙ sym (boxed_in n) ∙ boxed)).1)))
 
       pub frame_boxed : (frame : ℕ) → (document_at tree (element_at tree n).document).frame ≡ Some frame → has_box tree screen frame ≡ true
       frame_boxed frame is = by_box (has_box tree screen frame) refl

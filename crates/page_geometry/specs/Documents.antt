@@ -1,4 +1,4 @@
--- One document of a page, what is shown of it, and how far its viewport and its elements are scrolled.
+-- One document of a page as it is shown, and the scroll offsets in force of its viewport and its elements.
 use Rattle.std.specs.Prelude.{◌≡◌, ℕ}
 use Rattle.std.specs.Ordering.{nat_cmp}
 use Rattle.std.specs.FinMap.{FinMap}
@@ -20,7 +20,7 @@ pub record IsViewOffset (shown : Shown) (document : ℕ) (offset : Point) : Type
   pub value : offset ≡ as_point (pair_of (scroll_offset shown (InDocument document)))
   pub range : IsOffset offset
 
--- scroll offsets in force of elements, of which those in a document are so
+-- scroll offsets that were found of elements; those of elements with a box in the document are the ones in force
 pub record AreOffsetsIn (shown : Shown) (document : ℕ) (found : FinMap nat_cmp Point) : Type 0 where
   pub value : AreInForce (nodes_of shown.tree) (stored_in shown.scrolls) (view_of shown.tree shown.screen document) found
   pub range : AreOffsets found

@@ -1,4 +1,5 @@
--- What was found of documents: the root element that each shows, the size of its viewport, how far that is scrolled, and where it begins.
+-- What was found of documents: the root element that each shows, the size of its viewport, the viewport's scroll offset, and its
+-- origin.
 use Rattle.std.specs.Prelude.{◌≡◌, ℕ, List, Option, None, IfSome, option_map}
 use Rattle.px_units.specs.declared.Point.{Point}
 use Rattle.element_tree.specs.Links.{number}
@@ -12,11 +13,11 @@ use Rattle.page_geometry.specs.declared.documents.FoundDocument.{FoundDocument}
 use Rattle.page_geometry.specs.Documents.{IsViewOffset}
 use Rattle.page_geometry.specs.Ranges.{IsOrigin}
 
--- none where a document wasn't looked at
+-- what was found of a document, none if it wasn't looked at
 abbrev pub found_at : List (Option FoundDocument) → ℕ → Option FoundDocument
 found_at found document = entry_or None found document
 
--- where a document's viewport begins in that of `top`
+-- the origin of a document's viewport in the coordinates of the viewport of `top`
 pub record IsBeginning (shown : Shown) (document : ℕ) (at : Point) : Type 0 where
   pub value : at ≡ origin shown document
   pub range : IsOrigin 64 at
@@ -28,6 +29,6 @@ pub record IsFound (shown : Shown) (document : ℕ) (it : FoundDocument) : Type 
   pub scrolled : IfSome it.view.offset (IsViewOffset shown document)
   pub begins : IfSome it.origin (IsBeginning shown document)
 
--- so it is of each document that was looked at
+-- the same for each document that was looked at
 abbrev pub AreFound : Shown → List (Option FoundDocument) → Type 0
 AreFound shown found = (document : ℕ) → IfSome (found_at found document) (IsFound shown document)

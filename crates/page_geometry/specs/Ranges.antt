@@ -6,18 +6,18 @@ use Rattle.px_units.specs.declared.Rect.{Rect}
 use Rattle.px_units.specs.Rects.{InReach, RectInReach}
 use Rattle.page_model.specs.World.{Finding}
 
--- a place and a length from it on: from -3 * 2 ^ 40 to 3 * 2 ^ 40 units
+-- a place plus a length: from -3 * 2 ^ 40 to 3 * 2 ^ 40 units
 abbrev pub IsCorner : ℤ → Type 0
 IsCorner units = (negsuc 3298534883327 ≤ℤ units) × (units ≤ℤ pos 3298534883328)
 
--- where the viewport of a document begins that stands in so many frames: each moves it by at most as much
+-- the origin of the viewport of a document that is nested in so many frames, each of which moves it by at most 3 * 2 ^ 40 units
 pub record IsOrigin (frames : ℕ) (at : Point) : Type 0 where
   pub left_low : neg_ℤ (pos (frames * 3298534883328)) ≤ℤ at.left
   pub left_high : at.left ≤ℤ pos (frames * 3298534883328)
   pub top_low : neg_ℤ (pos (frames * 3298534883328)) ≤ℤ at.top
   pub top_high : at.top ≤ℤ pos (frames * 3298534883328)
 
--- an edge of a root rectangle that margins moved, from -2 ^ 48 and 100 widths of 2 ^ 42 to 2 ^ 48 and as much
+-- an edge of a root rectangle that margins moved: at most 2 ^ 48 and 100 widths of 2 ^ 42 from 0
 pub record IsMovedEdge (edge : ℤ) : Type 0 where
   pub low : negsuc 721279627821055 ≤ℤ edge
   pub high : edge ≤ℤ pos 721279627821056

@@ -1,5 +1,5 @@
--- How far outwards a chain can lead from a spot: a document stands higher than the one that holds its frame, and an element
--- higher than its parent.
+-- A bound on how far a chain can lead outwards from a spot: a document ranks higher than the one that holds its frame, and an
+-- element higher than its parent.
 use Rattle.std.specs.Prelude.{ℕ, zero, suc, ◌+◌, ◌*◌, cond, Option, Some, None}
 use Rattle.text_io.specs.Limits.{common_limit}
 use Rattle.text_io.specs.declared.kinds.LimitKind.TheVariants as limits
@@ -14,7 +14,7 @@ abbrev pub level_by : (ℕ → ℕ) → Tree → Option ℕ → ℕ
 level_by above tree None = 0
 level_by above tree (Some frame) = suc (above (element_at tree frame).document)
 
--- how many frames a document stands in, of so many that are looked at
+-- the number of frames that a document is nested in, counting at most a given number
 unfoldable pub level_up : ℕ → Tree → ℕ → ℕ
 level_up zero tree document = 0
 level_up (suc high) tree document = level_by (level_up high tree) tree (document_at tree document).frame
@@ -22,7 +22,7 @@ level_up (suc high) tree document = level_by (level_up high tree) tree (document
 abbrev pub level_of : Tree → ℕ → ℕ
 level_of tree document = level_up (common_limit limits.Documents) tree document
 
--- a level of documents has room for all depths of elements
+-- each level of documents leaves room for all depths of elements
 abbrev pub rank_of : Tree → Screen → Container → ℕ
 rank_of tree screen (Document document) = 257 * level_of tree document.0
 rank_of tree screen (Element node) =

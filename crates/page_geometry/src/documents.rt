@@ -1,4 +1,4 @@
-//! What was found of documents before a reading.
+//! What is precomputed of documents.
 
 ghost use Rattle.std.specs.Prelude.{◌≡◌, ◌<◌, Some, None, replicate, slice_set};
 ghost use Rattle.page_geometry.specs.Found.{found_at};
@@ -9,14 +9,14 @@ use page_documents::MOST_DOCUMENTS;
 use px_units::Point;
 use std::marker::Model;
 
-// What a document shows, and where its viewport begins in that of `top`, none where that wasn't found.
+// The view of a document, and the origin of its viewport in that of `top`, `None` if that wasn't computed.
 #[derive(Clone, Copy, Debug, PartialEq, Eq)]
 pub(crate) struct FoundDocument {
     pub(crate) view: DocumentView,
     pub(crate) origin: Option<Point>,
 }
 
-// None for a document that wasn't looked at. It takes no memory.
+// An entry for each document, `None` if it wasn't looked at. It doesn't allocate.
 #[derive(Drop)]
 pub(crate) struct FoundDocuments {
     documents: [Option<FoundDocument>; MOST_DOCUMENTS],

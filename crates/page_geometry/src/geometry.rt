@@ -1,4 +1,4 @@
-//! A page as chains of containers see it.
+//! The geometry of a page, as chains of containers need it.
 
 ghost use Rattle.std.specs.Prelude.{◌≡◌};
 ghost use Rattle.layout_model.specs.Clips.{clips, is_scroll_container};
@@ -19,7 +19,7 @@ pub(crate) fn clips(page: &PageTree, node: NodeId) -> bool
     page.holds(node) && is_clipping(page.tree(), node)
 }
 
-// Whether an element's box is a scroll container, where it has one (CSS Overflow 3, 3.1 and 3.3).
+// Whether an element's box, if it has one, is a scroll container (CSS Overflow 3, 3.1 and 3.3).
 fn is_scroll_container(page: &PageTree, node: NodeId) -> bool
     ensures { result ≡ is_scroll_container (nodes_of (page.now.tree) node.0) }
 {
@@ -35,7 +35,7 @@ impl Geometry for Shown<'_> {
     ghost rank = { λ it. rank_of it.tree it.screen };
 
     fn container(&self, of: Container) -> Option<Container> {
-        // It tells that chains end.
+        // Yields that chains are finite.
         self.document_count();
         match of {
             Container::Element(node) => {

@@ -1,9 +1,9 @@
-//! What is shown of a page as it is now, or of one document of it: boxes, sizes, places, how far elements and viewports can be scrolled
-//! and are scrolled; and of a page the containers, clips and boxes in the coordinates of the top document's viewport, how targets stand
-//! to the roots of intersection observers, and how what is found of them is told (CSS 2.2, 8 to 11; CSSOM View, 4 to 6; Intersection
-//! Observer, 2.2, 3.2.7 and 3.2.10). All lengths are in units of 1/64 CSS pixel.
+//! The current geometry of a page, or of one document of it: boxes, sizes, places, scroll ranges and offsets; and for a page
+//! the containers, clips and boxes in the coordinates of the top document's viewport, the relation of targets to the roots of
+//! intersection observers, and the mapping of findings to document coordinates (CSS 2.2, 8 to 11; CSSOM View, 4 to 6;
+//! Intersection Observer, 2.2, 3.2.7 and 3.2.10). All lengths are in units of 1/64 CSS pixel.
 //!
-//! Boxes, elements and scroll positions are lent, and nothing takes memory.
+//! Boxes, elements and scroll positions are borrowed, and nothing but `with_documents` allocates.
 #![tactic(auto)]
 
 mod documents;

@@ -1,4 +1,4 @@
-//! Which document an element or a document that is read or scrolled is of.
+//! The document that an element or a document, read or scrolled, belongs to.
 
 ghost use Rattle.std.specs.Prelude.{◌≡◌};
 ghost use Rattle.page_model.specs.Documents.{document_of_container};
@@ -7,7 +7,7 @@ ghost use Rattle.container_model.specs.Seen.{seen_container};
 use element_tree::{Container, DocumentId};
 use page_tree::PageTree;
 
-/// The node document of an element, or the document itself.
+/// Returns the node document of an element, or the document itself.
 pub fn document_of_container(page: &PageTree, container: Container) -> DocumentId
     ensures { result.0 ≡ document_of_container page.now.tree (seen_container container) }
 {

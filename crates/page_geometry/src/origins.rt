@@ -1,4 +1,4 @@
-//! Where the viewports of documents begin in that of `top` (HTML, 7.3; CSS 2.2, 8.1: the content box of a frame).
+//! The origins of documents' viewports in that of `top` (HTML, 7.3; CSS 2.2, 8.1: the content box of a frame).
 
 ghost use Rattle.std.specs.Prelude.{◌≡◌, ◌≤◌, ◌+◌};
 ghost use Rattle.page_model.specs.Chains.{added, origin, origin_up};
@@ -24,7 +24,7 @@ fn added(corner: Point, around: Point, frames: u32) -> Point
     }
 }
 
-// Where the viewport of a document begins, following `high` frames at most.
+// Returns the origin of a document's viewport, following at most `high` frames.
 fn origin_up(shown: &Shown<'_>, document: DocumentId, high: u32) -> Point
     requires { high ≤ 64 }
     ensures value { result ≡ origin_up high shown.now document.0 }
@@ -44,9 +44,9 @@ fn origin_up(shown: &Shown<'_>, document: DocumentId, high: u32) -> Point
     added(corner, around, high - 1)
 }
 
-// Where the viewport of a document begins: at the origin for `top`, and for a document whose frame has no box.
+// Returns the origin of a document's viewport: (0, 0) for `top`, and for a document whose frame has no box.
 //
-// It calls itself once for each frame around the document, up to one whose origin was found before.
+// It recurses once for each frame around the document, up to one whose origin was precomputed.
 pub(crate) fn origin(shown: &Shown<'_>, document: DocumentId) -> Point
     ensures value { result ≡ origin shown.now document.0 }
     ensures range { IsOrigin 64 result }

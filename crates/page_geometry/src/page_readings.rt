@@ -1,4 +1,4 @@
-//! What is read of a page: each reading is one of the document that it is of.
+//! Readings of a page, each delegated to the document that it concerns.
 
 ghost use Rattle.std.specs.Prelude.{◌≡◌, List, ◌-ℤ◌};
 ghost use Rattle.px_units.specs.Rects.{InReach, RectInReach};
@@ -31,8 +31,8 @@ impl Shown<'_> {
         self.in_document_of(node).has_box(node)
     }
 
-    /// The size of a document's viewport (CSSOM View, 4: `innerWidth`, `innerHeight`): for `top` that of its screen, and for another
-    /// document the content box of its frame, 0 by 0 where that has no box.
+    /// Returns the size of a document's viewport (CSSOM View, 4: `innerWidth`, `innerHeight`): for `top` that of its screen,
+    /// for any other document that of the content box of its frame, 0 by 0 if that has no box.
     pub fn viewport_of(&self, document: DocumentId) -> Size
         ensures value { result ≡ as_size (pair_of (viewport_of self.now document.0)) }
         ensures range { IsNatural result }
@@ -40,8 +40,8 @@ impl Shown<'_> {
         self.in_document(document).viewport()
     }
 
-    /// The size of an element's content box or border box in units of 1/64 CSS pixel (CSS 2.2, 8.1), or of its content box in device
-    /// pixels of the screen of `top`, to the nearest one, a half upwards; 0 by 0 without a box.
+    /// Returns the size of an element's content box or border box in units of 1/64 CSS pixel (CSS 2.2, 8.1), or of its
+    /// content box in device pixels of the screen of `top`, rounded to the nearest pixel, halves up; 0 by 0 without a box.
     pub fn size_of(&self, node: NodeId, kind: BoxKind) -> Size
         ensures value { result ≡ as_size (pair_of (size_of self.now node.0 kind)) }
         ensures width { IsSpan result.width }
@@ -50,8 +50,8 @@ impl Shown<'_> {
         self.in_document_of(node).size_of(node, kind)
     }
 
-    /// The corner of an element's content in its padding box, which is its left and top paddings (Resize Observer, 3.2:
-    /// `contentRect`), zeros without a box.
+    /// Returns the top left corner of an element's content box relative to its padding box, which is its left and top
+    /// paddings (Resize Observer, 3.2: `contentRect`), zeros without a box.
     pub fn corner_of(&self, node: NodeId) -> Point
         ensures value { result ≡ point_at (corner_of self.now node.0) }
         ensures left { IsSpan result.left }
@@ -60,8 +60,8 @@ impl Shown<'_> {
         self.in_document_of(node).corner_of(node)
     }
 
-    /// The place of an element's border box in the viewport of its document (CSSOM View, 6: `getBoundingClientRect`), zeros
-    /// without a box.
+    /// Returns the place of an element's border box in the viewport of its document (CSSOM View, 6: `getBoundingClientRect`),
+    /// zeros without a box.
     pub fn place_of(&self, node: NodeId) -> Point
         ensures value { result ≡ place_of self.now node.0 }
         ensures left { IsPlace result.left }
@@ -70,7 +70,7 @@ impl Shown<'_> {
         self.in_document_of(node).place_of(node)
     }
 
-    /// The border box of an element in the viewport of its document, all zeros without a box.
+    /// Returns the border box of an element in the viewport of its document, all zeros without a box.
     pub fn border_rect(&self, node: NodeId) -> Rect
         ensures value { result ≡ rect_of (place_of self.now node.0) (size_of self.now node.0 Border) }
         ensures edges { AreEdges result }
@@ -80,7 +80,7 @@ impl Shown<'_> {
         self.in_document_of(node).border_rect(node)
     }
 
-    /// The padding box of an element in the viewport of its document (CSS 2.2, 8.1), all zeros without a box.
+    /// Returns the padding box of an element in the viewport of its document (CSS 2.2, 8.1), all zeros without a box.
     pub fn padding_rect(&self, node: NodeId) -> Rect
         ensures value { result ≡ padding_box_at (place_of self.now node.0) (box_of self.now node.0) }
         ensures edges { AreEdges result }
@@ -90,8 +90,8 @@ impl Shown<'_> {
         self.in_document_of(node).padding_rect(node)
     }
 
-    /// The corner of the content box of an element in the viewport of its document (CSS 2.2, 8.1), which for a frame is where the
-    /// viewport of the document in it begins; zeros without a box.
+    /// Returns the top left corner of the content box of an element in the viewport of its document (CSS 2.2, 8.1), which for
+    /// a frame is the origin of the viewport of the document in it; zeros without a box.
     pub fn content_origin(&self, node: NodeId) -> Point
         ensures value { result ≡ content_corner_at (place_of self.now node.0) (box_of self.now node.0) }
         ensures left { IsCorner result.left }
@@ -100,11 +100,11 @@ impl Shown<'_> {
         self.in_document_of(node).content_origin(node)
     }
 
-    /// How far an element or the viewport of a document can be scrolled (CSS Overflow 3, 2.2; CSSOM View: scrolling area): how
-    /// far its content reaches beyond its padding box, or beyond the viewport. It is 0 by 0 for an element that isn't a scroll
-    /// container with a box, and for what isn't there.
+    /// Returns the scroll range of an element or of a document's viewport (CSS Overflow 3, 2.2; CSSOM View: scrolling area):
+    /// how far its content overflows its padding box, or the viewport. It is 0 by 0 for an element that isn't a scroll
+    /// container with a box, and for an element or document that doesn't exist.
     ///
-    /// It calls itself once a level of the tree below.
+    /// It recurses once per level of the tree below.
     pub fn range_of(&self, target: Container) -> Size
         ensures value { result ≡ as_size (pair_of (scroll_range self.now (seen_container target))) }
         ensures range { IsRange result }
@@ -113,8 +113,8 @@ impl Shown<'_> {
             .range_of(target)
     }
 
-    /// The scroll offset in force of an element or of a document's viewport (CSSOM View, 4 to 6: `scrollTop`, `scrollY`): on each
-    /// axis the lesser of the stored position and of how far it can be scrolled.
+    /// Returns the scroll offset in force of an element or of a document's viewport (CSSOM View, 4 to 6: `scrollTop`,
+    /// `scrollY`): on each axis the lesser of the stored position and the scroll range.
     pub fn offset_of(&self, target: Container) -> Point
         ensures value { result ≡ as_point (pair_of (scroll_offset self.now (seen_container target))) }
         ensures range { IsOffset result }
@@ -123,8 +123,8 @@ impl Shown<'_> {
             .offset_of(target)
     }
 
-    /// What the command `read` shows: an element's border box in the viewport of its document, all zeros without a box, or the
-    /// viewport of the document; and the scroll offset in force.
+    /// Returns what the command `read` shows: an element's border box in the viewport of its document, all zeros without a
+    /// box, or the viewport of the document; and the scroll offset in force.
     pub fn read(&self, container: Container) -> Reading
         ensures value { (names : List Name) → reading_of names self.now.tree self.now.screen self.now.scrolls (seen_container container)
             ≡ ReadLine (container_text names (seen_container container)) result.rect result.scroll }

@@ -1,4 +1,4 @@
-//! What is read of an element's box: sizes, places and rectangles, and what the command `read` shows.
+//! Readings of an element's box: sizes, places and rectangles, and what the command `read` shows.
 
 ghost use Rattle.std.specs.Prelude.{◌≡◌, List, ◌+ℤ◌, ◌-ℤ◌};
 ghost use Rattle.px_units.specs.Rects.{InReach, RectInReach};
@@ -38,7 +38,7 @@ pub(crate) const NO_SIZE: Size = Size {
     height: 0,
 };
 
-// The point at an offset from a place.
+// Returns the point at an offset from a place.
 fn beside(place: Point, by: Point) -> Point
     requires left { IsPlace place.left }
     requires top { IsPlace place.top }
@@ -55,7 +55,7 @@ fn beside(place: Point, by: Point) -> Point
     }
 }
 
-// The rectangle at a corner and of a size.
+// Returns the rectangle with this corner and size.
 fn rect_at(corner: Point, size: Size) -> Rect
     requires left { IsCorner corner.left }
     requires top { IsCorner corner.top }
@@ -82,8 +82,8 @@ fn rect_at(corner: Point, size: Size) -> Rect
 }
 
 impl ShownDocument<'_> {
-    /// The size of an element's content box or border box in units of 1/64 CSS pixel (CSS 2.2, 8.1), or of its content box in device
-    /// pixels of the screen of `top`, to the nearest one, a half upwards; 0 by 0 without a box.
+    /// Returns the size of an element's content box or border box in units of 1/64 CSS pixel (CSS 2.2, 8.1), or of its
+    /// content box in device pixels of the screen of `top`, rounded to the nearest pixel, halves up; 0 by 0 without a box.
     pub fn size_of(&self, node: NodeId, kind: BoxKind) -> Size
         requires { (element_at self.now.shown.tree node.0).document ≡ self.now.document }
         ensures value { result ≡ as_size (pair_of (size_of self.now.shown node.0 kind)) }
@@ -96,8 +96,8 @@ impl ShownDocument<'_> {
         }
     }
 
-    /// The corner of an element's content in its padding box, which is its left and top paddings (Resize Observer, 3.2:
-    /// `contentRect`), zeros without a box.
+    /// Returns the top left corner of an element's content box relative to its padding box, which is its left and top
+    /// paddings (Resize Observer, 3.2: `contentRect`), zeros without a box.
     pub fn corner_of(&self, node: NodeId) -> Point
         requires { (element_at self.now.shown.tree node.0).document ≡ self.now.document }
         ensures value { result ≡ point_at (corner_of self.now.shown node.0) }
@@ -110,8 +110,8 @@ impl ShownDocument<'_> {
         }
     }
 
-    /// The place of an element's border box in the viewport of its document (CSSOM View, 6: `getBoundingClientRect`), zeros
-    /// without a box.
+    /// Returns the place of an element's border box in the viewport of its document (CSSOM View, 6: `getBoundingClientRect`),
+    /// zeros without a box.
     pub fn place_of(&self, node: NodeId) -> Point
         requires { (element_at self.now.shown.tree node.0).document ≡ self.now.document }
         ensures value { result ≡ place_of self.now.shown node.0 }
@@ -132,7 +132,7 @@ impl ShownDocument<'_> {
         )
     }
 
-    /// The border box of an element in the viewport of its document, all zeros without a box.
+    /// Returns the border box of an element in the viewport of its document, all zeros without a box.
     pub fn border_rect(&self, node: NodeId) -> Rect
         requires { (element_at self.now.shown.tree node.0).document ≡ self.now.document }
         ensures value { result ≡ rect_of (place_of self.now.shown node.0) (size_of self.now.shown node.0 Border) }
@@ -143,7 +143,7 @@ impl ShownDocument<'_> {
         rect_at(self.place_of(node), self.size_of(node, BoxKind::Border))
     }
 
-    /// The padding box of an element in the viewport of its document (CSS 2.2, 8.1), all zeros without a box.
+    /// Returns the padding box of an element in the viewport of its document (CSS 2.2, 8.1), all zeros without a box.
     pub fn padding_rect(&self, node: NodeId) -> Rect
         requires { (element_at self.now.shown.tree node.0).document ≡ self.now.document }
         ensures value { result ≡ padding_box_at (place_of self.now.shown node.0) (box_of self.now.shown node.0) }
@@ -158,8 +158,8 @@ impl ShownDocument<'_> {
         rect_at(beside(place, own.padding_corner()), own.padding_size())
     }
 
-    /// The corner of the content box of an element in the viewport of its document (CSS 2.2, 8.1), which for a frame is where the
-    /// viewport of the document in it begins; zeros without a box.
+    /// Returns the top left corner of the content box of an element in the viewport of its document (CSS 2.2, 8.1), which for
+    /// a frame is the origin of the viewport of the document in it; zeros without a box.
     pub fn content_origin(&self, node: NodeId) -> Point
         requires { (element_at self.now.shown.tree node.0).document ≡ self.now.document }
         ensures value { result ≡ content_corner_at (place_of self.now.shown node.0) (box_of self.now.shown node.0) }
@@ -173,8 +173,8 @@ impl ShownDocument<'_> {
         }
     }
 
-    /// What the command `read` shows: an element's border box in the viewport of its document, all zeros without a box, or the
-    /// viewport of the document; and the scroll offset in force.
+    /// Returns what the command `read` shows: an element's border box in the viewport of its document, all zeros without a
+    /// box, or the viewport of the document; and the scroll offset in force.
     pub fn read(&self, container: Container) -> Reading
         requires { document_of_container self.now.shown.tree (seen_container container) ≡ self.now.document }
         ensures value { (names : List Name) → reading_of names self.now.shown.tree self.now.shown.screen self.now.shown.scrolls (seen_container container)

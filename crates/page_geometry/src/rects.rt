@@ -18,7 +18,7 @@ pub(crate) const NO_RECT: Rect = Rect {
     bottom: 0,
 };
 
-// A rectangle in the viewport of a document that begins at `by`.
+// Maps a rectangle from the viewport of a document with origin `by` to that of `top`.
 fn moved_by(by: Point, rect: Rect) -> Rect
     requires by { IsOrigin 64 by }
     requires edges { AreEdges rect }
@@ -30,7 +30,7 @@ fn moved_by(by: Point, rect: Rect) -> Rect
     shift(rect, by.left, by.top)
 }
 
-// A rectangle in the coordinates of the viewport of a document that begins at `from`.
+// Maps a rectangle from the viewport of `top` to that of a document with origin `from`.
 pub(crate) fn moved_back(from: Point, rect: Rect) -> Rect
     requires from { IsOrigin 64 from }
     requires rect { IsMoved rect }

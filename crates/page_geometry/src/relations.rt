@@ -1,4 +1,4 @@
-//! How a target lies to a root (Intersection Observer, 2.2 and 3.2.10).
+//! The relation of a target to a root (Intersection Observer, 2.2 and 3.2.10).
 
 ghost use Rattle.std.specs.Prelude.{◌≡◌};
 ghost use Rattle.page_model.specs.Findings.{is_on_chain, is_apart};
@@ -10,7 +10,7 @@ use intersection_observer::Root;
 use page_tree::PageTree;
 use positioned_layout::{Holder, holder_of};
 
-// Whether an element is among those that hold the target's box, one in the other (CSS 2.2, 10.1: containing block).
+// Whether an element is on the chain of holders of the target's box (CSS 2.2, 10.1: containing block).
 fn is_on_chain(page: &PageTree, element: NodeId, target: NodeId) -> bool
     ensures { result ≡ is_on_chain page.now.tree element.0 target.0 }
 {
@@ -31,7 +31,8 @@ fn is_on_chain(page: &PageTree, element: NodeId, target: NodeId) -> bool
     false
 }
 
-// Whether a target is apart from a root: of another document, or an element that isn't on its chain, or one of the two has no box.
+// Whether a target is apart from a root: the root is of another document, or an element that isn't on the target's chain, or
+// one of the two has no box.
 pub(crate) fn is_apart(shown: &Shown<'_>, root: Root, target: NodeId) -> bool
     ensures { result ≡ is_apart shown.now (seen_root root) target.0 }
 {

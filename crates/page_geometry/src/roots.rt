@@ -1,4 +1,4 @@
-//! Root rectangles, before margins move them, and where their documents begin (Intersection Observer, 2.2).
+//! Root rectangles before root margins are applied, and the origins of their documents (Intersection Observer, 2.2).
 
 ghost use Rattle.std.specs.Prelude.{◌≡◌};
 ghost use Rattle.page_model.specs.Chains.{root_bounds};
@@ -15,7 +15,7 @@ use element_tree::DocumentId;
 use intersection_observer::Root;
 use px_units::{Point, Rect};
 
-// Where the viewport of the root's document begins.
+// Returns the origin of the viewport of the root's document.
 pub(crate) fn root_origin(shown: &Shown<'_>, root: Root) -> Point
     ensures value { result ≡ root_origin shown.now (seen_root root) }
     ensures range { IsOrigin 64 result }
@@ -33,8 +33,8 @@ pub(crate) fn root_origin(shown: &Shown<'_>, root: Root) -> Point
     }
 }
 
-// The root rectangle before a margin moves it: the viewport of a document, the padding box of an element that clips, the border
-// box of another, zeros without a box.
+// Returns the root rectangle before root margins are applied: the viewport of a document, the padding box of an element that
+// clips, the border box of any other element, zeros without a box.
 pub(crate) fn root_bounds(shown: &Shown<'_>, root: Root) -> Rect
     ensures value { result ≡ root_bounds shown.now (seen_root root) }
     ensures range { IsBounds result }

@@ -1,4 +1,4 @@
-//! How targets stand to roots on a page.
+//! The relation of targets to roots on a page.
 
 use crate::relations::is_apart;
 use crate::shown::Shown;

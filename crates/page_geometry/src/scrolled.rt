@@ -1,4 +1,4 @@
-//! How far elements and viewports can be scrolled and are scrolled (CSS Overflow 3, 2.2; CSSOM View, 4 to 6).
+//! Scroll ranges and scroll offsets of elements and viewports (CSS Overflow 3, 2.2; CSSOM View, 4 to 6).
 
 ghost use Rattle.std.specs.Prelude.{◌≡◌};
 ghost use Rattle.page_model.specs.World.{InElement, InDocument};
@@ -31,7 +31,7 @@ impl ShownDocument<'_> {
         }
     }
 
-    // The scrolling range of the document's viewport.
+    // Returns the scroll range of the document's viewport.
     fn view_range(&self) -> Size
         ensures value { result ≡ as_size (pair_of (scroll_range self.now.shown (InDocument self.now.document))) }
         ensures range { IsRange result }
@@ -42,11 +42,11 @@ impl ShownDocument<'_> {
         }
     }
 
-    /// How far an element or the viewport of a document can be scrolled (CSS Overflow 3, 2.2; CSSOM View: scrolling area): how
-    /// far its content reaches beyond its padding box, or beyond the viewport. It is 0 by 0 for an element that isn't a scroll
-    /// container with a box, and for what isn't there.
+    /// Returns the scroll range of an element or of the document's viewport (CSS Overflow 3, 2.2; CSSOM View: scrolling
+    /// area): how far its content overflows its padding box, or the viewport. It is 0 by 0 for an element that isn't a scroll
+    /// container with a box, and for an element or document that doesn't exist.
     ///
-    /// It calls itself once a level of the tree below.
+    /// It recurses once per level of the tree below.
     pub fn range_of(&self, target: Container) -> Size
         requires { document_of_container self.now.shown.tree (seen_container target) ≡ self.now.document }
         ensures value { result ≡ as_size (pair_of (scroll_range self.now.shown (seen_container target))) }
@@ -58,7 +58,7 @@ impl ShownDocument<'_> {
         }
     }
 
-    // The scroll offset in force of an element.
+    // Returns the scroll offset in force of an element.
     fn element_offset(&self, node: NodeId) -> Point
         requires { (element_at self.now.shown.tree node.0).document ≡ self.now.document }
         ensures value { result ≡ as_point (pair_of (scroll_offset self.now.shown (InElement node.0))) }
@@ -71,7 +71,7 @@ impl ShownDocument<'_> {
         }
     }
 
-    // The scroll offset in force of the document's viewport, found anew.
+    // Computes the scroll offset in force of the document's viewport.
     fn measured_offset(&self) -> Point
         ensures value { result ≡ as_point (pair_of (scroll_offset self.now.shown (InDocument self.now.document))) }
         ensures range { IsOffset result }
@@ -99,8 +99,8 @@ impl ShownDocument<'_> {
         }
     }
 
-    /// The scroll offset in force of an element or of a document's viewport (CSSOM View, 4 to 6: `scrollTop`, `scrollY`): on each
-    /// axis the lesser of the stored position and of how far it can be scrolled.
+    /// Returns the scroll offset in force of an element or of the document's viewport (CSSOM View, 4 to 6: `scrollTop`,
+    /// `scrollY`): on each axis the lesser of the stored position and the scroll range.
     pub fn offset_of(&self, target: Container) -> Point
         requires { document_of_container self.now.shown.tree (seen_container target) ≡ self.now.document }
         ensures value { result ≡ as_point (pair_of (scroll_offset self.now.shown (seen_container target))) }

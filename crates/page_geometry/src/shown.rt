@@ -1,4 +1,4 @@
-//! What is shown of a page, lent to whoever reads it.
+//! The geometry of a page, borrowed for reading.
 
 ghost use Rattle.std.specs.Prelude.{◌≡◌, ◌<◌, ◌≤◌, true, Some, length, option_map, IfSome};
 ghost use Rattle.page_model.specs.Lookups.{element_at, document_at};
@@ -32,8 +32,8 @@ use scrolling::Scrolls;
 use std::alloc::Global;
 use std::marker::Model;
 
-/// A page whose boxes are all held as they are now, with its scroll positions and the screen of `top`. A contract sees
-/// what boxes, places and findings are read from. All that is read takes no memory.
+/// A page whose boxes are all up to date, with its scroll positions and the screen of `top`. A contract sees what boxes,
+/// places and findings are read from. No reading allocates.
 #[derive(Drop)]
 pub struct Shown<'a> {
     page: &'a PageTree,
@@ -63,7 +63,7 @@ impl<'a> Model for Shown<'a> {
 }
 
 impl<'a> Shown<'a> {
-    /// What is shown of a page with its boxes, which are held as they are with this screen of `top`.
+    /// Borrows a page with its boxes, which must all be up to date for this screen of `top` (`page_boxes::refresh`).
     pub fn new(
         page: &'a PageTree,
         boxes: &'a Kept,
@@ -84,8 +84,8 @@ impl<'a> Shown<'a> {
         }
     }
 
-    /// The same, for the sizes of many elements: what each document shows, and how large its viewport is, is found here once, and not by a
-    /// climb from frame to frame for each element. No memory.
+    /// Precomputes the root element and the viewport size of each document, so that reading the sizes of many elements
+    /// doesn't climb from frame to frame for each. Changes no result. Doesn't allocate.
     pub fn with_views(self) -> Shown<'a>
         ensures { result ≡ self.entry }
     {
@@ -97,10 +97,11 @@ impl<'a> Shown<'a> {
         shown
     }
 
-    /// The same, for a reading of many elements: how far elements are scrolled, what each document shows, how large its viewport is, how
-    /// far that is scrolled, and where it begins, is found here once, and not for each element. So each viewport whose stored position
-    /// isn't the start, and lies farther than its root element reaches, is measured, and so is each such scroll container, by its last
-    /// child, whatever is read then. Where there is no memory, each reading finds how far elements are scrolled.
+    /// Precomputes the scroll offsets of elements, and of each document its root element and the size, the scroll offset and
+    /// the origin of its viewport, for reading many elements. Changes no result. This measures each viewport whose stored
+    /// position isn't 0 and lies beyond what its root element reaches, and each scroll container whose stored position lies
+    /// beyond what its last child reaches, whatever is read later. If an allocation fails, each reading computes the scroll
+    /// offsets of elements itself.
     pub fn with_documents(self, alloc: Global) -> Shown<'a>
         ensures { result ≡ self.entry }
     {
@@ -112,7 +113,7 @@ impl<'a> Shown<'a> {
         shown
     }
 
-    // With how far elements are scrolled, where there is memory for it.
+    // Precomputes the scroll offsets of elements, unless an allocation fails.
     fn with_scrollers(self, alloc: Global) -> Shown<'a>
         ensures { result ≡ self.entry }
     {
@@ -122,7 +123,7 @@ impl<'a> Shown<'a> {
         shown
     }
 
-    // With what each document shows, how large its viewport is, and how far that is scrolled.
+    // Precomputes the root element of each document, and the size and scroll offset of its viewport.
     fn with_offsets(self) -> Shown<'a>
         ensures { result ≡ self.entry }
     {
@@ -134,7 +135,7 @@ impl<'a> Shown<'a> {
         shown
     }
 
-    // Keeps what was found of a document.
+    // Stores what was precomputed of a document.
     fn keep(&mut self, document: DocumentId, found: FoundDocument)
         requires small { document.0 < 64 }
         requires found { IsFound self.old document.0 found }
@@ -143,7 +144,7 @@ impl<'a> Shown<'a> {
         self.found.put(document, found);
     }
 
-    // Finds what a document shows and how large its viewport is.
+    // Precomputes the root element and the viewport size of a document.
     fn look_at(&mut self, document: DocumentId)
         requires { document.0 < 64 }
         ensures { self.new ≡ self.old }
@@ -152,7 +153,7 @@ impl<'a> Shown<'a> {
         self.keep(document, FoundDocument { view, origin: None });
     }
 
-    // Finds besides how far its viewport is scrolled.
+    // Also precomputes the scroll offset of its viewport.
     fn measure(&mut self, document: DocumentId)
         requires { document.0 < 64 }
         ensures { self.new ≡ self.old }
@@ -161,7 +162,7 @@ impl<'a> Shown<'a> {
         self.keep(document, FoundDocument { view, origin: None });
     }
 
-    // Finds where the viewport of a document begins.
+    // Precomputes the origin of a document's viewport.
     fn place(&mut self, document: DocumentId)
         requires { document.0 < 64 }
         ensures { self.new ≡ self.old }
@@ -171,7 +172,7 @@ impl<'a> Shown<'a> {
         self.keep(document, FoundDocument { view, origin });
     }
 
-    // What was found of a document, none where it wasn't looked at.
+    // Returns what was precomputed of a document, `None` if nothing was.
     pub(crate) fn found(&self, document: DocumentId) -> Option<FoundDocument>
         ensures { IfSome result (IsFound self.now document.0) }
     {
@@ -182,7 +183,7 @@ impl<'a> Shown<'a> {
         }
     }
 
-    // Where the viewport of a document begins, none where it wasn't found.
+    // Returns the origin of a document's viewport, `None` if it wasn't precomputed.
     pub(crate) fn found_origin(&self, document: DocumentId) -> Option<Point>
         ensures { IfSome result (IsBeginning self.now document.0) }
     {
@@ -192,14 +193,14 @@ impl<'a> Shown<'a> {
         }
     }
 
-    /// The elements and documents.
+    /// Returns the elements and documents.
     pub fn page(&self) -> &PageTree
         ensures { result.now.tree ≡ self.now.tree }
     {
         self.page
     }
 
-    // The elements as layout reads them.
+    // Returns the elements as layout reads them.
     pub(crate) fn elements(&self) -> &Tree<Element>
         ensures nodes { nodes_of self.now.tree ≡ layout_tree style_in kind_in result.now.nodes }
         ensures count { length result.now.nodes ≡ length self.now.tree.elements }
@@ -208,7 +209,7 @@ impl<'a> Shown<'a> {
         self.page.tree()
     }
 
-    /// How many documents there are. What is so of the elements and documents of every page is told here for what rests on it.
+    /// Returns the number of documents. Also ensures what holds for the elements and documents of every page (`page`).
     pub fn document_count(&self) -> u32
         ensures value { result ≡ length self.now.tree.documents }
         ensures page { IsPageTree self.now.tree }
@@ -217,21 +218,21 @@ impl<'a> Shown<'a> {
         self.page.document_count()
     }
 
-    /// The frame that a document is in.
+    /// Returns the frame that a document is in.
     pub fn frame_of(&self, document: DocumentId) -> Option<NodeId>
         ensures { option_map number result ≡ (document_at self.now.tree document.0).frame }
     {
         self.page.frame_of(document)
     }
 
-    /// The node document of an element.
+    /// Returns the node document of an element.
     pub fn document_of(&self, node: NodeId) -> DocumentId
         ensures { result.0 ≡ (element_at self.now.tree node.0).document }
     {
         self.page.document_of(node)
     }
 
-    // What a document shows, by a climb where it wasn't found yet.
+    // Returns the view of a document, climbing from frame to frame unless it was precomputed.
     fn view_of(&self, document: DocumentId) -> DocumentView
         ensures root { option_map number result.root ≡ (view_of self.now.tree self.now.screen document.0).root }
         ensures size { result.size ≡ as_size (pair_of (viewport_of self.now document.0)) }
@@ -244,7 +245,7 @@ impl<'a> Shown<'a> {
         }
     }
 
-    // What is shown of one document.
+    // Returns the geometry of one document.
     pub(crate) fn in_document(&self, document: DocumentId) -> ShownDocument<'_>
         ensures { result ≡ record { shown = self.now; document = document.0 } }
     {
@@ -260,20 +261,20 @@ impl<'a> Shown<'a> {
         )
     }
 
-    // What is shown of the node document of an element.
+    // Returns the geometry of the node document of an element.
     pub(crate) fn in_document_of(&self, node: NodeId) -> ShownDocument<'_>
         ensures { result ≡ record { shown = self.now; document = (element_at self.now.tree node.0).document } }
     {
         self.in_document(self.document_of(node))
     }
 
-    /// What holds the box of an element: an element's box, or the viewport of its document, for the page and for the screen (CSS 2.2,
-    /// 10.1: containing block).
+    /// Returns the holder of an element's box: another element, or the viewport of its document if the page or the screen
+    /// holds it (CSS 2.2, 10.1: containing block).
     pub fn holding(&self, node: NodeId) -> Container
         requires { has_box self.now node.0 ≡ true }
         ensures { Some (seen_container result) ≡ holding self.now.tree node.0 }
     {
-        // It tells that a box stands in its document's tree.
+        // Yields that an element with a box is in its document's tree.
         self.document_count();
         match holder_of(self.elements(), node) {
             Holder::Node(element) => Container::Element(element),

@@ -1,4 +1,4 @@
-//! What is shown of one document of a page, lent to whoever reads it.
+//! The geometry of one document of a page, borrowed for reading.
 
 ghost use Rattle.std.specs.Prelude.{◌≡◌, ◌<◌, ◌≤◌, Some, None, IfSome, length, option_map};
 ghost use Rattle.page_model.specs.Lookups.{element_at};
@@ -26,9 +26,9 @@ use px_units::{Point, Size};
 use scrolling::Scrolls;
 use std::marker::Model;
 
-/// One document of a page, whose boxes and those of the document around it are held as they are now, with the page's scroll positions
-/// and the screen of `top`. A contract sees the document's number and what boxes and places are read from. Its readings are of
-/// elements of that document alone, and of the document itself. All that is read takes no memory.
+/// One document of a page, whose boxes and those of the document that its frame is in are up to date, with the page's scroll
+/// positions and the screen of `top`. A contract sees the document's number and what boxes and places are read from. Only
+/// elements of that document, and the document itself, can be read. No reading allocates.
 #[derive(Drop)]
 pub struct ShownDocument<'a> {
     page: &'a PageTree,
@@ -66,11 +66,11 @@ impl<'a> Model for ShownDocument<'a> {
 }
 
 impl<'a> ShownDocument<'a> {
-    /// What is shown of a document, of which the boxes, and those of the document that its frame is in, are held as they are with
-    /// this screen of `top`. Nothing is asked of the boxes of other documents.
+    /// Borrows a document, whose boxes and those of the document that its frame is in must be up to date for this screen of
+    /// `top` (`page_boxes::refresh_in`). The boxes of other documents don't matter.
     ///
-    /// It climbs once from frame to frame, and no reading does it again. How far the viewport is scrolled is found by each reading that
-    /// goes by it, unless `with_offset` found it.
+    /// It climbs once from frame to frame, and no reading does it again. The scroll offset of the viewport is computed by
+    /// each reading that depends on it, unless `with_offset` was called.
     pub fn new(
         page: &'a PageTree,
         boxes: &'a Kept,
@@ -87,7 +87,7 @@ impl<'a> ShownDocument<'a> {
         ShownDocument::with_view(page, boxes, scrolls, screen, document, view, None)
     }
 
-    // The same, where what the document shows was found before, and how far elements are scrolled may have been.
+    // The same, with a view computed before, and possibly the scroll offsets of elements.
     pub(crate) fn with_view(
         page: &'a PageTree,
         boxes: &'a Kept,
@@ -117,8 +117,8 @@ impl<'a> ShownDocument<'a> {
         }
     }
 
-    /// The same, for a reading of many elements: how far the viewport is scrolled is found here once, and not for each element. It is
-    /// measured where the stored position isn't the start and lies farther than the root element reaches. No memory.
+    /// Precomputes the scroll offset of the viewport, for reading many elements. Changes no result. The viewport is measured
+    /// if the stored position isn't 0 and lies beyond what the root element reaches. Doesn't allocate.
     pub fn with_offset(self) -> ShownDocument<'a>
         ensures { result ≡ self.entry }
     {
@@ -146,7 +146,7 @@ impl<'a> ShownDocument<'a> {
         self.view
     }
 
-    // What is so of the elements and documents of every page is told here.
+    // Returns the elements and documents, and ensures what holds for those of every page.
     fn page(&self) -> &PageTree
         ensures tree { result.now.tree ≡ self.now.shown.tree }
         ensures framed { AreFramed self.now.shown.tree }
@@ -155,7 +155,7 @@ impl<'a> ShownDocument<'a> {
         self.page
     }
 
-    // The elements as layout reads them.
+    // Returns the elements as layout reads them.
     pub(crate) fn elements(&self) -> &Tree<Element>
         ensures nodes { nodes_of self.now.shown.tree ≡ layout_tree style_in kind_in result.now.nodes }
         ensures count { length result.now.nodes ≡ length self.now.shown.tree.elements }
@@ -164,7 +164,7 @@ impl<'a> ShownDocument<'a> {
         self.page.tree()
     }
 
-    // The boxes that are kept, in a viewport of at most the largest length.
+    // Returns the cached boxes, in a viewport of at most the largest length.
     pub(crate) fn boxes(&self) -> &Kept
         ensures fresh { IsFreshIn self.now.shown.tree self.now.shown.screen result.now self.now.document }
         ensures sized { IsSized (view_of self.now.shown.tree self.now.shown.screen self.now.document) }
@@ -178,14 +178,14 @@ impl<'a> ShownDocument<'a> {
         self.scrolls
     }
 
-    // The scroll offsets in force of elements, none where they weren't looked for.
+    // Returns the scroll offsets in force of elements, `None` if they weren't precomputed.
     pub(crate) fn offsets(&self) -> Option<&NumberMap<Point>>
         ensures { IfSome result (λ map. AreOffsetsIn self.now.shown self.now.document map.now) }
     {
         self.offsets
     }
 
-    // What `top` is shown on.
+    // Returns the screen of `top`.
     pub(crate) fn screen(&self) -> Screen
         ensures value { seen_screen result ≡ self.now.shown.screen }
         ensures range { IsScreen result }
@@ -199,8 +199,8 @@ impl<'a> ShownDocument<'a> {
         self.document
     }
 
-    /// The size of the document's viewport (CSSOM View, 4: `innerWidth`, `innerHeight`): for `top` that of its screen, and for another
-    /// document the content box of its frame, 0 by 0 where that has no box.
+    /// Returns the size of the document's viewport (CSSOM View, 4: `innerWidth`, `innerHeight`): for `top` that of its
+    /// screen, for any other document that of the content box of its frame, 0 by 0 if that has no box.
     pub fn viewport(&self) -> Size
         ensures value { result ≡ as_size (pair_of (viewport_of self.now.shown self.now.document)) }
         ensures range { IsNatural result }
@@ -208,21 +208,21 @@ impl<'a> ShownDocument<'a> {
         self.view.size
     }
 
-    // The scroll offset in force of the viewport, none where it wasn't found.
+    // Returns the scroll offset in force of the viewport, `None` if it wasn't precomputed.
     pub(crate) fn found_offset(&self) -> Option<Point>
         ensures { IfSome result (IsViewOffset self.now.shown self.now.document) }
     {
         self.view.offset
     }
 
-    // The root element that the document shows, none where it isn't shown.
+    // Returns the root element that the document shows, `None` if it isn't shown.
     fn root(&self) -> Option<NodeId>
         ensures { option_map number result ≡ (view_of self.now.shown.tree self.now.shown.screen self.now.document).root }
     {
         self.view.root
     }
 
-    // The root element that the document shows, and the size of its viewport.
+    // Returns the root element that the document shows, and the size of its viewport.
     pub(crate) fn shown_root(&self) -> Option<ShownRoot>
         ensures nothing { result ≡ None → (view_of self.now.shown.tree self.now.shown.screen self.now.document).root ≡ None }
         ensures shown { IfSome result (λ shown. view_of self.now.shown.tree self.now.shown.screen self.now.document ≡ view_with (Some shown.root.0) (Some (seen_pair shown.size))) }
@@ -230,7 +230,7 @@ impl<'a> ShownDocument<'a> {
         ensures made { IfSome result (λ shown. shown.root.0 < length self.now.shown.tree.elements) }
         ensures size { IfSome result (λ shown. IsNatural shown.size) }
     {
-        // It tells that root elements have no parents.
+        // Yields that root elements have no parents.
         self.page();
         match self.root() {
             Some(root) => Some(ShownRoot {

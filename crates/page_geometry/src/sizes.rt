@@ -1,4 +1,4 @@
-//! The sizes of a page as gathering sees them.
+//! The sizes of a page, for gathering resize observations.
 
 use crate::shown::Shown;
 use depth_gather::Sizes;

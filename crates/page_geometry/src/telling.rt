@@ -1,4 +1,4 @@
-//! What is found over the scene of a page, as an entry tells it (Intersection Observer, 3.2.10).
+//! Findings over the scene of a page, mapped to the coordinates of an entry (Intersection Observer, 3.2.10).
 
 ghost use Rattle.std.specs.Prelude.{◌≡◌};
 ghost use Rattle.page_model.specs.Findings.{Relation};
@@ -15,7 +15,7 @@ use intersection_observer::{Finding, Root};
 use kept_findings::Tells;
 use px_units::{Point, Rect};
 
-// The box of a target that stands so to a root: zeros, which aren't moved, where the chain doesn't lead to the root.
+// Maps the box of a target, given its relation to the root: zeros, which aren't moved, if the chain doesn't lead to the root.
 fn told_box(standing: Standing, from: Point, rect: Rect) -> Rect
     requires from { IsOrigin 64 from }
     requires rect { IsMoved rect }
@@ -28,7 +28,7 @@ fn told_box(standing: Standing, from: Point, rect: Rect) -> Rect
     }
 }
 
-// What is seen of a target, zeros where nothing is.
+// Maps the visible part of a target, zeros if it isn't visible.
 fn told_cut(meets: bool, from: Point, cut: Rect) -> Rect
     requires from { IsOrigin 64 from }
     requires cut { IsMoved cut }
@@ -48,7 +48,7 @@ impl Tells for Shown<'_> {
 
     fn told(&self, root: Root, target: NodeId, found: Finding) -> Finding {
         let from = origin(self, self.document_of(target));
-        // It tells how far the root rectangle reached before margins moved it.
+        // Yields a bound on the root rectangle before root margins were applied.
         root_bounds(self, root);
         Finding {
             root: moved_back(root_origin(self, root), found.root),

@@ -1,4 +1,4 @@
-//! What a document shows, the size of the viewport that shows it, and how far that is scrolled.
+//! The root element that a document shows, and the size and scroll offset of its viewport.
 
 ghost use Rattle.std.specs.Prelude.{◌≡◌, None, option_map};
 ghost use Rattle.page_model.specs.PageBoxes.{pair_of, view_of, viewport_of};
@@ -14,8 +14,8 @@ use page_boxes::{Screen, shown_root, viewport_of};
 use page_tree::PageTree;
 use px_units::{Point, Size};
 
-// The root element that a document shows, none where it isn't shown, the size of its viewport, and the viewport's scroll offset in
-// force, none where that wasn't found: the page's boxes may have to be measured for it.
+// The root element that a document shows, `None` if it isn't shown, the size of its viewport, and the viewport's scroll
+// offset in force, `None` if that wasn't computed, which may need measuring the page's boxes.
 #[derive(Clone, Copy, Debug, PartialEq, Eq)]
 pub(crate) struct DocumentView {
     pub(crate) root: Option<NodeId>,
@@ -23,7 +23,7 @@ pub(crate) struct DocumentView {
     pub(crate) offset: Option<Point>,
 }
 
-// Finds root element and size by a climb from frame to frame.
+// Finds the root element and the size by climbing from frame to frame.
 pub(crate) fn view_in(
     page: &PageTree,
     boxes: &Kept,

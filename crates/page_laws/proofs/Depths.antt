@@ -1,6 +1,6 @@
 -- An element that is put into another one stands one level deeper.
 use Rattle.std.proofs.Common.{◌≡◌, refl, ap, sym, subst, ◌∙◌, true≢false, arith, tests, ◌≢◌}
-use Rattle.std.proofs.lemmas.Bool.{leb-true}
+use Rattle.std.proofs.lemmas.Bool.{leb-true, or_parts}
 use Rattle.std.specs.Prelude.{ℕ, zero, suc, ◌+◌, ◌<◌, ◌≤◌, nat_le, Bool, true, false, ◌||◌, ◌==◌, List, [], ◌∷◌, length, Option, Some, None, slice_get, unwrap_or, ⊤}
 use Rattle.layout_model.specs.Nodes.{Node, path_above, path_up, is_among}
 use Rattle.text_io.specs.declared.kinds.ThrowKind.{ThrowKind}
@@ -97,10 +97,6 @@ module _ (tree : Tree) (parent n : ℕ) (sibling : Option ℕ) where
 
 -- paths
 
-pub or-false : (a b : Bool) → (a || b) ≡ false → (a ≡ false) × (b ≡ false)
-or-false true b none = absurd (true≢false none)
-or-false false b none = (refl, none)
-
 above-same : (up up' : ℕ → List ℕ) (n : ℕ) (parent : Option ℕ) → ((p : ℕ) → is_among n (up' p) ≡ false → up p ≡ up' p) →
     is_among n (path_above up' parent) ≡ false → path_above up parent ≡ path_above up' parent
 above-same up up' n None each none = refl
@@ -114,7 +110,7 @@ path-same : (at at' : ℕ → Node) (n : ℕ) → ((m : ℕ) → m ≢ n → (at
 unfolding path_up is_among
 path-same at at' n elsewhere zero m none = refl
 path-same at at' n elsewhere (suc high) m none =
-    let apart = or-false (n == m) (is_among n (path_above (path_up high at') (at' m).parent)) none in
+    let apart = or_parts (n == m) (is_among n (path_above (path_up high at') (at' m).parent)) none in
     ap (λ above. m ∷ above)
     (ap (path_above (path_up high at)) (elsewhere m (not-equal n m (apart.0)))
     ∙ above-same (path_up high at) (path_up high at') n (at' m).parent (path-same at at' n elsewhere high) (apart.1))

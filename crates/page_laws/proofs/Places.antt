@@ -1,6 +1,7 @@
 -- A loop over a list by place ends by the list's length.
 use Rattle.std.proofs.Common.{◌≡◌, refl, sym, ap, arith, tests, ◌≤◌}
 use Rattle.std.specs.Prelude.{ℕ, zero, suc, ◌+◌, ◌&&◌, nat_lt, Bool, true, false}
+use Rattle.std.proofs.lemmas.Bool.{and_right}
 use Rattle.page_model.specs.Runs.{Flow, Next, Thrown, Limited, Said, Turn, silent, behind, follow, ◌followed_by◌, only_if, lifted, repeat, by_place, at_place, most_steps}
 use Rattle.page_laws.specs.Bounds.{places_up_to}
 
@@ -21,10 +22,6 @@ unfolding repeat
 repeat-not goes_on step zero state fails = refl
 repeat-not goes_on step (suc most) state fails = ap (only_if (λ now. step now followed_by repeat goes_on step most) state) fails
 
-pub and-false : (a b : Bool) → b ≡ false → (a && b) ≡ false
-and-false true b fails = fails
-and-false false b fails = refl
-
 not-less : (a b : ℕ) → b ≤ a → nat_lt a b ≡ false
 not-less a b most = grind (arith, tests)
 
@@ -39,7 +36,7 @@ module _ {S : Type 0} (P : S → Type 0) (count : S → ℕ) (goes_on : S → Bo
   ended : (turn : Turn S) → P (turn.state) → limit ≤ turn.place → goes turn ≡ false
   ended turn here past =
       let most : count (turn.state) ≤ limit = bounded (turn.state) here in
-      and-false (goes_on (turn.state)) _ (not-less (turn.place) (count (turn.state)) (omega arith))
+      and_right (goes_on (turn.state)) _ (not-less (turn.place) (count (turn.state)) (omega arith))
 
   only-same : (one other : Turn S → Said (Turn S)) (turn : Turn S) (test : Bool) → one turn ≡ other turn → only_if one turn test ≡ only_if other turn test
   only-same one other turn true same = same

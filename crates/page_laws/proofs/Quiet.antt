@@ -2,6 +2,7 @@
 use Rattle.std.proofs.Common.{◌≡◌, refl, sym, ap, ◌∙◌, subst, eq-eqb}
 use Rattle.std.specs.Prelude.{ℕ, zero, suc, ◌&&◌, ◌==◌, Bool, true, false, not, cond, nat_lt, nat_le, List, [], ◌∷◌, map, filter, length, Option, Some, None, slice_get, unwrap_or, ⊤}
 use Rattle.std.specs.List.{AllByRecursion, list_any}
+use Rattle.std.proofs.lemmas.Bool.{and_right}
 use Rattle.text_io.specs.declared.kinds.EventKind.TheVariants as events
 use Rattle.script_model.specs.TraceLines.{TraceLine, TickLine, FiredResize, FiredScroll, FiredError}
 use Rattle.page_model.specs.World.{World, Document, Extent, Container, Timer, FrameCallback, ResizeObserver, Finding, IntersectionObserver, IntersectionObservers, WindowTarget}
@@ -22,7 +23,7 @@ use Rattle.page_model.specs.Loop.{gather, round, report_skipped, resize_loop}
 use Rattle.page_model.specs.Ticks.{run_timer, run_timers, resize_steps, event_target_of, scroll_steps, evaluate, media_steps, run_frame_callback, frame_steps, parts_of_update, update_rendering, run_first, run_tasks, tick}
 use Rattle.page_laws.specs.Quiet.{IsQuiet}
 use Rattle.page_laws.proofs.Later.{all-so}
-use Rattle.page_laws.proofs.Places.{repeat-not, and-false}
+use Rattle.page_laws.proofs.Places.{repeat-not}
 
 -- nothing is said, and the page is quiet
 record IsHushed (said : Said World) : Type 0 where
@@ -167,7 +168,7 @@ media-hushed script world quiet =
     (λ turn. lifted (at_place (suc turn.place)) (evaluate script 0 (turn.place) (turn.state)))
     most_steps
     (at_place 0 world)
-    (and-false (is_active (world.tree) 0) (nat_lt 0 (length world.queries)) (ap (λ queries. nat_lt 0 (length queries)) (quiet.queries)))))
+    (and_right (is_active (world.tree) 0) (nat_lt 0 (length world.queries)) (ap (λ queries. nat_lt 0 (length queries)) (quiet.queries)))))
     quiet
 
 frames-hushed : (script : Script) (world : World) → IsQuiet world → IsHushed (frame_steps script 0 world)
@@ -198,7 +199,7 @@ error-hushed : (script : Script) (world : World) → IsQuiet world → IsHushed 
 error-hushed script world quiet =
     only_if-not (fire script (FiredError (document_text (world.names) 0)) (WindowTarget 0) events.Error) world
     (is_active (world.tree) 0 && has_skipped 0 (world.resize_observers))
-    (and-false (is_active (world.tree) 0) (has_skipped 0 (world.resize_observers)) (none-skipped world quiet))
+    (and_right (is_active (world.tree) 0) (has_skipped 0 (world.resize_observers)) (none-skipped world quiet))
     quiet
 
 loop-hushed : (script : Script) (world : World) → IsQuiet world → IsHushed (resize_loop script 0 world)
@@ -209,7 +210,7 @@ loop-hushed script world quiet =
     (error-hushed script)
     (hushed _ (gather 0 0 world)
     (repeat-not (λ now. is_active (now.tree) 0 && has_active 0 (now.resize_observers)) (round script 0) most_steps (gather 0 0 world)
-    (and-false (is_active (gather 0 0 world).tree 0) ((has_active 0 (gather 0 0 world).resize_observers))
+    (and_right (is_active (gather 0 0 world).tree 0) ((has_active 0 (gather 0 0 world).resize_observers))
     (none-active (gather 0 0 world) (gathered-quiet world quiet))))
     (gathered-quiet world quiet))
 

@@ -1,4 +1,4 @@
-//! Laws over the definitions of a page and its runs.
+//! Laws about the definitions of a page and its runs.
 #![tactic(auto)]
 
 mod pages;

@@ -1,4 +1,4 @@
-//! Laws of callbacks, ticks and whole runs.
+//! Laws about callbacks, ticks and whole runs.
 
 ghost use Rattle.std.specs.Prelude.{◌≡◌, ℕ, suc, ◌<◌, ◌≤◌, List, [], ◌∷◌, Option, None, length};
 ghost use Rattle.std.specs.List.{AllByRecursion};
@@ -25,8 +25,9 @@ ghost use Rattle.page_model.specs.Callbacks.{Script, Entries, presents, run_comm
 ghost use Rattle.page_model.specs.Ticks.{evaluate, media_steps, run_first, tick, time_set};
 ghost use Rattle.page_model.specs.Outcome.{opening_world, run_item, run_items, run_tick};
 
-/// A command with its block, a callback, a tick and the items of a script leave a later world than the one before (`IsLater`): what was
-/// made, how far documents came, names, the clock, the count of commands and the version. A throw and a limit do so too.
+/// A command with its block, a callback, a tick and the items of a script lead to a world that is no earlier (`IsLater`) in what was
+/// created, the states of documents, names, the clock, the count of commands and the version. This includes those that throw or meet a
+/// limit.
 pub fn runs_take_nothing_back()
     ensures commands { (script : Script) (entries : List Present) (command : Command) (present : Present) (world : World) →
         IsLater world (run_command script entries command present world).state }
@@ -36,17 +37,17 @@ pub fn runs_take_nothing_back()
     ensures scripts { (items : List Item) (world : World) → IsLater world (run_items items world).state }
 {}
 
-/// The clock stands at a tick's time until the tick has ended, and a time before it is refused.
+/// The clock stays at a tick's time until the tick has ended, and a tick at an earlier time throws a RangeError.
 pub fn the_clock_stands_in_a_tick()
     ensures stands { (script : Script) (world : World) → (tick script world).state.clock ≡ world.clock }
     ensures refused { (script : Script) (line time : ℕ) (world : World) → world.begun < limit_number (world.version) limits.Commands → time < world.clock →
         run_tick script line time world ≡ record { lines = ThrowLine line RangeError ∷ []; flow = Thrown; state = record world { begun = suc world.begun } } }
 {}
 
-/// Each number in a world is that of something over whole runs too, so no lookup ever comes to a default. A script opens in a
-/// world in range. From any world in range a command with its block, a callback, a tick and an item leave one, where the
-/// entries that are handed in are of elements that there are and the handlers are those of the script; and so do the counting of a command
-/// and the setting of the clock. (Of what one command does the law `numbers_stay_in_range` says so.)
+/// Every number in a world remains that of an existing thing over whole runs too, so no lookup ever yields a default. A script starts in
+/// a world in range. From any world in range a command with its block, a callback, a tick and an item lead to one, if the entries passed
+/// in are of existing elements and the handlers are those of the script; and so do counting a command and setting the clock. (For the
+/// effect of a single command see `numbers_stay_in_range`.)
 pub fn runs_stay_in_range()
     ensures opening { (handlers : ℕ) (version : Version) → IsInRange handlers (opening_world version) }
     ensures counts { (handlers : ℕ) (world : World) → IsInRange handlers world → OnDid (begun_in world) (IsInRange handlers) }
@@ -63,16 +64,15 @@ pub fn runs_stay_in_range()
         IsInRange (length (handlers_in items)) (run_items items (opening_world version)).state }
 {}
 
-/// In a quiet page a tick writes its own line and nothing else, and leaves the page quiet.
+/// On a quiet page a tick writes its own line and nothing else, and leaves the page quiet.
 pub fn ticks_of_a_quiet_page_say_nothing_more()
     ensures line { (script : Script) (world : World) → IsQuiet world → (tick script world).lines ≡ TickLine (world.clock) ∷ [] }
     ensures quiet { (script : Script) (world : World) → IsQuiet world → IsQuiet (tick script world).state }
 {}
 
-/// The limits on resize observers, query lists, commands begun, documents and tasks are kept by what each command does, by the counting of
-/// commands and the setting of the clock, and over whole runs: by commands and callbacks, by
-/// gatherings, broadcasts and rounds of a resize loop, by each task, and by ticks and items. A notify task waits for marked documents alone, so
-/// at most 4,160 tasks wait.
+/// The limits on resize observers, query lists, commands begun, documents and tasks are respected by the effect of each command, by
+/// counting commands and setting the clock, and over whole runs: by commands and callbacks, by gathering, broadcasts and rounds of a
+/// resize loop, by each task, and by ticks and items. Only documents with a mark have a notify task queued, so at most 4,160 tasks are.
 pub fn limits_are_kept()
     ensures opening { (version : Version) → IsWithinLimits (opening_world version) }
     ensures effects { (handlers : Handlers) (world : World) → IsWithinLimits world → (present : Present) (action : Action) →
@@ -95,8 +95,8 @@ pub fn limits_are_kept()
     ensures waiting { (world : World) → IsWithinLimits world → length world.tasks ≤ 4160 }
 {}
 
-/// No loop over a list by place, that of the query lists and that of the resize observers, is cut off by the bound of its
-/// recursion: with any bound from 4,096 on it comes to the same, while callbacks go on to make more.
+/// The loops that go over a list by position, over the query lists and over the resize observers, are never cut off by the bound on
+/// their recursion: with any bound from 4,096 on the result is the same, even while callbacks create more.
 pub fn turns_by_place_are_never_cut_off()
     ensures query_lists { (script : Script) (world : World) → IsWithinLimits world → (document most : ℕ) → 4096 ≤ most →
         media_steps script document world ≡ places_up_to most (λ now. length (now.queries)) (λ now. is_active (now.tree) document)

@@ -1,6 +1,6 @@
 -- An element that is made, with its slot.
 use Rattle.std.proofs.Common.{◌≡◌, ◌+◌, ◌-◌, ◌<◌, ◌≤◌, ℕ, suc, Bool, true, false, not, ◌&&◌, ◌||◌, nat_eq, nat_lt, List, [], length, replicate, Option, OnOk, OnErr, Result, Ok, Err, IfErr, refl, ap, sym, subst, ◌∙◌, arith}
-use Rattle.std.proofs.lemmas.Bool.{false≢true}
+use Rattle.std.proofs.lemmas.Bool.{false≢true, and_parts}
 use Rattle.std.proofs.lemmas.Bool.Decides.{nat_tests}
 use Rattle.std.proofs.lemmas.List.{length-append, length-replicate}
 use mathlib.Core.Path.{fun_ext}
@@ -22,7 +22,6 @@ use Rattle.page_tree.specs.Faults.{has_document_room, IsMakeFault, IsFrameFault}
 use Rattle.page_tree.specs.declared.faults.MakeFault.{MakeFault}
 use Rattle.page_tree.specs.declared.faults.MakeFault.TheVariants.{Limit, Memory}
 use Rattle.page_boxes.specs.Kept.{AreKept}
-use Rattle.page_boxes.proofs.Rooted.{second_true}
 
 or_none : (b : Bool) → (b || false) ≡ false → b ≡ false
 or_none false none = refl
@@ -71,7 +70,7 @@ module _ (old new : PageElements) (kept : List Slot) (was : AreKept old.tree kep
   kept_made made names room alone (Err e) is longer changes same = subst (λ (page : PageElements). AreKept page.tree kept) (sym same) was
 
 pub room_is : (page : PageElements) (kept : List Slot) → (page.ready && nat_lt (length page.tree.elements) (length kept)) ≡ true → length page.tree.elements < length kept
-room_is page kept ready = let low = second_true (page.ready) (nat_lt (length page.tree.elements) (length kept)) ready in grind (arith, nat_tests)
+room_is page kept ready = let low = (and_parts (page.ready) (nat_lt (length page.tree.elements) (length kept)) ready).1 in grind (arith, nat_tests)
 
 -- an element that isn't made, as a frame, where there is room for its document
 module _ (page : PageElements) (other : Bool) (tells : other ≡ not (has_document_room page)) (is : other ≡ false) where

@@ -1,9 +1,9 @@
--- What the elements of a page with their boxes are seen as.
+-- The view of a page's elements with their boxes.
 use Rattle.std.specs.Prelude.{◌&&◌, nat_lt, List, length}
 use Rattle.kept_layout.specs.declared.slots.Slot.{Slot}
 use Rattle.page_tree.specs.Views.{PageElements}
 
--- elements and documents, with room for one more where its slot is there too; and what is kept for each element
+-- elements and documents, and what is kept for each element; there is room for one more element only if its slot exists too
 pub record LaidElements : Type 0 where
   pub elements : PageElements
   pub kept : List Slot

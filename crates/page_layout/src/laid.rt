@@ -1,4 +1,4 @@
-//! The elements and documents of a page with their boxes.
+//! The elements and documents of a page with their cached boxes.
 
 ghost use Rattle.std.specs.Prelude.{◌≡◌, ◌+◌, ◌<◌, ◌≤◌, ◌++◌, ◌∷◌, ◌||◌, [], ℕ, true, false, length, option_map, unsigned_abs, Some, None, IfOk, IfErr, OnOk, OnErr};
 ghost use Rattle.std.specs.Option.{ForSome};
@@ -36,11 +36,11 @@ use step_count::Steps;
 use style_values::{Axis, Declaration};
 use text_io::{LimitKind, Name, ThrowKind, Version};
 
-/// The elements and documents of a page with their boxes, which are kept. A contract sees them as a page's elements, and as what
-/// is kept for each (`specs/Views.antt`).
+/// The elements and documents of a page with their cached boxes. A contract sees a page's elements, and the slot of each
+/// (`specs/Views.antt`).
 ///
-/// Each call that changes the tree or a style marks what it changed, so that what is kept always fits the page; `refresh` computes
-/// what is due.
+/// Each call that changes the tree or a style marks what it changed, so that the cache is always sound for the page;
+/// `refresh` recomputes what is due.
 #[derive(Drop)]
 pub struct LaidTree {
     page: PageTree,
@@ -59,11 +59,12 @@ impl Model for LaidTree {
 }
 
 impl LaidTree {
-    /// No element, and `top` alone, which is Active, of a page for scripts of this version. The room for all documents is made here.
+    /// Creates a page for scripts of this version, without elements and with the Active document `top`. Capacity for all
+    /// documents is reserved here.
     ///
     /// # Errors
     ///
-    /// Where there is no memory.
+    /// If an allocation fails.
     pub fn new(alloc: Global, version: Version) -> Result<LaidTree, AllocError>
         ensures version { IfOk result (λ laid. laid.elements.version ≡ version) }
         ensures tree { IfOk result (λ laid. laid.elements.tree ≡ (opening_world version).tree) }
@@ -77,7 +78,7 @@ impl LaidTree {
         })
     }
 
-    /// The elements and documents by themselves.
+    /// Returns the elements and documents.
     pub fn page(&self) -> &PageTree
         ensures value { result.now ≡ record self.now.elements { ready = result.now.ready } }
         ensures tree { result.now.tree ≡ self.now.elements.tree }
@@ -86,8 +87,8 @@ impl LaidTree {
         &self.page
     }
 
-    /// The boxes that are held by now. What is held for an element that has a box and isn't due is that box as it is now, whatever
-    /// screen `top` is shown on; so where none is due, all boxes are held as they are now.
+    /// Returns the cached boxes. The stored box of an element that has a box and isn't due is its current box, whatever
+    /// screen `top` is shown on; so if none is due, all boxes are up to date.
     pub fn boxes(&self) -> &Kept
         ensures value { result.now ≡ self.now.kept }
         ensures kept { AreKept self.now.elements.tree self.now.kept }
@@ -99,9 +100,10 @@ impl LaidTree {
         &self.boxes
     }
 
-    /// Makes room for one element and its box, and tells the number that the next `make` or `make_frame` gives it.
+    /// Reserves capacity for one element and its box, and returns the number that the next `make` or `make_frame` gives it.
     ///
-    /// That call doesn't answer `Memory`. `Limit` comes exactly where the page is full; else `Memory` where there is none. Besides the room nothing changes.
+    /// That call won't return `Memory`. `Limit` exactly when the page is full; otherwise `Memory` if an allocation fails.
+    /// Nothing but capacity changes.
     pub fn reserve(&mut self) -> Result<NodeId, MakeFault>
         ensures node { IfOk result (λ node. node.0 ≡ length self.old.elements.tree.elements) }
         ensures roomy { OnOk result (element_room self.old.elements ≡ Did tt) }
@@ -118,10 +120,10 @@ impl LaidTree {
         Ok(node)
     }
 
-    /// Makes an element with this name and kind, in a document and standing nowhere, and gives its number. It has no style set.
+    /// Creates a detached element with this name, kind and node document, and returns its number. It has no style set.
     ///
-    /// `Limit` comes exactly where the page is full; else `Memory` where there is none, which isn't after
-    /// `reserve`. Nothing is changed then but that room may have been made.
+    /// `Limit` exactly when the page is full; otherwise `Memory` if an allocation fails, but never after `reserve`. Nothing
+    /// but capacity is changed then.
     pub fn make(
         &mut self,
         document: DocumentId,
@@ -147,11 +149,11 @@ impl LaidTree {
         self.page.make(document, name, kind)
     }
 
-    /// Makes a frame with this name, in a document and standing nowhere, and the Fresh document in it, which has no root element
-    /// (HTML, 4.8.5 and 7.3), and gives both names. The frame has no style set.
+    /// Creates a detached frame with this name and node document, and the Fresh document in it, which has no root element
+    /// (HTML, 4.8.5 and 7.3), and returns both ids. The frame has no style set.
     ///
-    /// `Limit(Nodes)` comes exactly where the page is full, then `Limit(Documents)` where 64 documents were made; else
-    /// `Memory` where there is none, which isn't after `reserve`. Nothing is changed then but that room may have been made.
+    /// `Limit(Nodes)` exactly when the page is full, then `Limit(Documents)` exactly when there are 64 documents; otherwise
+    /// `Memory` if an allocation fails, but never after `reserve`. Nothing but capacity is changed then.
     pub fn make_frame(
         &mut self,
         document: DocumentId,
@@ -182,13 +184,12 @@ impl LaidTree {
         self.page.make_frame(document, name)
     }
 
-    /// Puts an element, with its subtree, among the children of an element, before a sibling or last, or makes it the
-    /// root element of a document (DOM, 4.2.3 pre-insert), as `PageTree::place` does, and marks where it leaves and where it comes
-    /// to stand.
+    /// Inserts an element, with its subtree, into the children of an element, before a sibling or last, or makes it the root
+    /// element of a document (DOM, 4.2.3 pre-insert), like `PageTree::place`, and marks its old and its new parent.
     ///
-    /// Refused, with nothing changed, by HierarchyRequestError where it would stand in itself, then by NotFoundError
-    /// where the sibling isn't a child there, then by HierarchyRequestError where the document has its root element,
-    /// then by `Limit` where an element would stand deeper than 256. No memory.
+    /// Fails, with nothing changed, with HierarchyRequestError if it would contain itself, then with NotFoundError if the
+    /// sibling isn't a child there, then with HierarchyRequestError if the document already has a root element, then with
+    /// `Limit` if an element would be deeper than 256. Doesn't allocate.
     pub fn place(
         &mut self,
         container: Container,
@@ -218,8 +219,8 @@ impl LaidTree {
         Ok(())
     }
 
-    /// Takes an element, with its subtree, out of its parent's children, or as root element out of its document (DOM,
-    /// 4.2.3 remove), as `PageTree::remove` does, and marks where it stood. No memory.
+    /// Removes an element, with its subtree, from its parent, or as root element from its document (DOM, 4.2.3 remove), like
+    /// `PageTree::remove`, and marks its old parent. Doesn't allocate.
     pub fn remove(&mut self, node: NodeId)
         requires { node.0 < length self.old.elements.tree.elements }
         ensures done { self.new.elements.tree ≡ removed (self.old.elements.tree) node.0 }
@@ -247,10 +248,10 @@ impl LaidTree {
         mark(&mut self.boxes, &self.page, Some(node));
     }
 
-    /// Adds so many units of 1/64 pixel to an element's width or height, which stays between 0 and 1,000,000 pixels, and marks the
-    /// element.
+    /// Adds a number of units of 1/64 pixel to an element's width or height, clamped to 0 up to 1,000,000 pixels, and marks
+    /// the element.
     ///
-    /// TypeError comes exactly where that property isn't in pixels. Nothing is changed then.
+    /// TypeError exactly when that property isn't in pixels. Nothing is changed then.
     pub fn grow(&mut self, node: NodeId, axis: Axis, by: Px) -> Result<(), ThrowKind>
         requires { node.0 < length self.old.elements.tree.elements }
         ensures done { OnOk result (growing (seen_axis axis) node.0 by.0 (self.old.elements.tree) ≡ Did (self.new.elements.tree)) }
@@ -268,7 +269,7 @@ impl LaidTree {
 
     /// Sets the natural size of an image, in units of 1/64 pixel, and marks the image.
     ///
-    /// TypeError comes exactly where the element is no image. Nothing is changed then.
+    /// TypeError exactly when the element isn't an image. Nothing is changed then.
     pub fn load(&mut self, node: NodeId, size: Size) -> Result<(), ThrowKind>
         requires node { node.0 < length self.old.elements.tree.elements }
         requires size { IsNatural size }
@@ -287,8 +288,8 @@ impl LaidTree {
         Ok(())
     }
 
-    /// Computes what is due of the boxes, with this screen of `top`: each box of the page is then held as it is now,
-    /// and none is due. It takes at most one step for each box that was due, sets no mark, drops no box, and takes no memory.
+    /// Recomputes the boxes that are due, for this screen of `top`: each box of the page is then up to date, and none is due.
+    /// It takes at most one step for each box that was due, sets no mark, drops no box, and doesn't allocate.
     pub fn refresh<L: Ledger>(&mut self, screen: Screen, steps: &mut Steps<L>)
         ensures fresh { IsFresh self.new.elements.tree (seen_screen screen) self.new.kept }
         ensures done { (n : ℕ) → is_due self.new.elements.tree (seen_screen screen) self.new.kept n ≡ false }
@@ -299,9 +300,9 @@ impl LaidTree {
         refresh(&mut self.boxes, &self.page, screen, steps);
     }
 
-    /// Computes what is due of the boxes of a document and of the documents around it, with this screen of `top`: those of the document
-    /// and of the one that its frame is in are then held as they are now, and boxes of other documents aren't touched. It takes at most
-    /// one step for each box that was due, and no memory.
+    /// Recomputes the boxes that are due in a document and its ancestor documents, for this screen of `top`: those of the
+    /// document and of the one that its frame is in are then up to date, and boxes of other documents are unchanged. It takes
+    /// at most one step for each box that was due, and doesn't allocate.
     pub fn refresh_in<L: Ledger>(
         &mut self,
         screen: Screen,
@@ -318,9 +319,9 @@ impl LaidTree {
         refresh_in(&mut self.boxes, &self.page, screen, document, steps);
     }
 
-    /// Computes what is due of the boxes that a reading of an element or a document rests on, with this screen of `top`:
-    /// those of one document and of the documents around it are then held as they are now, and boxes of other documents aren't
-    /// touched. It takes at most one step for each box that was due, and no memory.
+    /// Recomputes the boxes that are due and that a reading of an element or a document depends on, for this screen of `top`:
+    /// those of one document and its ancestor documents are then up to date, and boxes of other documents are unchanged. It
+    /// takes at most one step for each box that was due, and doesn't allocate.
     pub fn refresh_for<L: Ledger>(
         &mut self,
         screen: Screen,

@@ -1,4 +1,5 @@
-//! The elements and documents of a page with their boxes, which are kept from one reading to the next and exact at each.
+//! The elements and documents of a page with their boxes, which are cached from one reading to the next and recomputed when
+//! due.
 #![tactic(auto)]
 
 mod laid;

@@ -1,4 +1,4 @@
-//! Marks on what is kept, where the elements of a page change.
+//! Marking cached boxes when the elements of a page change.
 
 ghost use Rattle.std.specs.Prelude.{◌≡◌, ◌<◌, ◌≤◌, length, option_map};
 ghost use Rattle.std.specs.Option.{ForSome};
@@ -11,7 +11,7 @@ use element_tree::{Container, NodeId};
 use kept_layout::Kept;
 use page_tree::PageTree;
 
-// The element that an element is a child of.
+// Returns the parent element of an element.
 pub(crate) fn parent_of(page: &PageTree, node: NodeId) -> Option<NodeId>
     ensures value { option_map number result ≡ (nodes_of page.now.tree node.0).parent }
     ensures made { ForSome result (λ parent. parent.0 < length page.now.tree.elements) }
@@ -19,7 +19,7 @@ pub(crate) fn parent_of(page: &PageTree, node: NodeId) -> Option<NodeId>
     page.tree().parent(node)
 }
 
-// The element that a container is, none where it is a document.
+// Returns the element that a container is, `None` for a document.
 pub(crate) fn element_of(container: Container) -> Option<NodeId>
     ensures { option_map number result ≡ element_of (seen_container container) }
 {
@@ -29,7 +29,7 @@ pub(crate) fn element_of(container: Container) -> Option<NodeId>
     }
 }
 
-// Marks an element with its ancestors, where there is one.
+// Marks an element with its ancestors, if there is one.
 pub(crate) fn mark(boxes: &mut Kept, page: &PageTree, node: Option<NodeId>)
     requires made { ForSome node (λ n. n.0 < length page.now.tree.elements) }
     requires slots { length page.now.tree.elements ≤ length boxes.old }

@@ -1,2 +1,2 @@
-//! The definitions of a page and its runs (`specs/`). They have no code; their laws stand in `page_laws`.
+//! The definitions of a page and its runs (`specs/`). This crate has no code; the laws of the definitions are in `page_laws`.
 #![tactic(auto)]

@@ -1,4 +1,4 @@
--- What looking something up answers, as a step of the definitions.
+-- The result of a lookup, as a step of the definitions.
 use Rattle.std.specs.Prelude.{◌≡◌, Result, Ok, Err}
 use Rattle.text_io.specs.declared.kinds.ThrowKind.{ThrowKind}
 use Rattle.page_model.specs.Steps.{Step, Did, Threw}

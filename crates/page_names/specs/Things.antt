@@ -1,4 +1,4 @@
--- What names stand for, and the entry that a command is run for.
+-- What names refer to, and the entry for which a command runs.
 use Rattle.std.specs.Prelude.{ℕ, ◌<◌, List, Option, Some, None}
 use Rattle.std.specs.List.{AllByRecursion}
 use Rattle.element_tree.specs.declared.node.NodeId.{NodeId}
@@ -17,7 +17,7 @@ seen_thing (ResizeObserver observer) = ResizeObserverThing observer.0
 seen_thing (IntersectionObserver watcher) = IntersectionObserverThing watcher.0
 seen_thing (QueryList query) = QueryListThing query
 
--- a name with the thing that it stands for
+-- a name with the thing that it refers to
 abbrev pub seen_entry : List ℕ × Thing → Name
 seen_entry entry = record { text = entry.0; thing = seen_thing entry.1 }
 
@@ -25,7 +25,7 @@ abbrev pub present_of : Option NodeId → Present
 present_of None = NoEntry
 present_of (Some node) = ResizeEntry node.0
 
--- each name stands for something that there is
+-- each name refers to something that exists
 abbrev pub AreIn : Counts → List Name → Type 0
 AreIn counts names = AllByRecursion (λ named. IsThingIn counts named.thing) names
 

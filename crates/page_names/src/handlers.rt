@@ -10,7 +10,7 @@ use event_tables::HandlerId;
 use script_syntax::Script;
 use text_io::{Name, ThrowKind};
 
-/// The handler of a name: a `ReferenceError` where there is none.
+/// Returns the handler with this name: a `ReferenceError` if there is none.
 pub fn handler_named(script: &Script, name: Name) -> Result<HandlerId, ThrowKind>
     ensures { Finds (λ (handler : HandlerId). handler.0) result (handler_named (handler_names (handlers_in script.now.items)) name) }
 {
@@ -20,7 +20,7 @@ pub fn handler_named(script: &Script, name: Name) -> Result<HandlerId, ThrowKind
     }
 }
 
-/// An observer's handler, where one is named.
+/// Returns an observer's handler, if one is named; the same exception.
 pub fn handler_given(script: &Script, name: Option<Name>) -> Result<Option<u32>, ThrowKind>
     ensures { Finds (λ handler. handler) result (handler_given (handler_names (handlers_in script.now.items)) name) }
 {

@@ -1,5 +1,5 @@
-//! The names of a page: given to things, looked up, and told of things; and handlers by their names. A name that was given stands for its
-//! thing for good.
+//! The names of a page's objects, looked up in both directions, and handlers by their names. A name refers to the same object
+//! forever.
 #![tactic(auto)]
 
 mod handlers;

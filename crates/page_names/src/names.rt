@@ -1,4 +1,4 @@
-//! The names of things, given and looked up.
+//! The names of a page's objects.
 
 ghost use Rattle.std.specs.Prelude.{List, ◌≡◌, ◌+◌, ◌<◌, ◌≤◌, ◌++◌, bytes_eq, false, ◌∷◌, [], find, option_map, None, IfOk, OnOk, OnErr, IsOk};
 ghost use Rattle.indexmap.specs.IndexMap.{spare};
@@ -30,11 +30,11 @@ use std::alloc::{AllocError, Global};
 use std::marker::Model;
 use text_io::{Name, ThrowKind};
 
-/// The names in the order in which they were given. Both look-ups hash, whatever stands before what is looked up.
+/// The names in the order in which they were assigned. Look-ups in both directions hash; none scans the list.
 #[derive(Drop)]
 pub struct Names {
     things: IndexMap<Name, Thing>,
-    // The first name of each thing that has one: trace lines ask for it.
+    // The first name of each thing that has one, for trace lines.
     firsts: IndexMap<ThingKey, Name>,
 }
 
@@ -54,7 +54,7 @@ impl Model for Names {
 }
 
 impl Names {
-    /// No names yet, which takes no memory.
+    /// Creates an empty set of names; allocates nothing.
     pub fn new(alloc: Global) -> Names
         ensures { result.list ≡ [] }
     {
@@ -64,7 +64,7 @@ impl Names {
         }
     }
 
-    /// What a name stands for.
+    /// Returns what a name refers to, `None` if it is free.
     #[tactic(auto, using(crate::proofs::Found::found_thing))]
     pub fn thing_of(&self, name: Name) -> Option<Thing>
         ensures { option_map seen_thing result ≡ named_thing self.now.list name }
@@ -75,7 +75,7 @@ impl Names {
         }
     }
 
-    /// Makes room for so many names, so that giving them takes no memory.
+    /// Reserves capacity for `count` names, so that assigning them doesn't allocate.
     pub fn reserve(&mut self, count: usize) -> Result<(), AllocError>
         ensures roomy { OnOk result (count ≤ self.new.room) }
         ensures same { self.new.list ≡ self.old.list }
@@ -84,7 +84,7 @@ impl Names {
         self.firsts.reserve(count)
     }
 
-    /// Gives a name that is free.
+    /// Assigns a name, which must be free.
     pub fn insert(&mut self, name: Name, thing: Thing) -> Result<(), AllocError>
         requires { named_thing self.old.list name ≡ None }
         ensures given { OnOk result (self.new.list ≡ self.old.list ++ record { text = name; thing = seen_thing thing } ∷ []) }
@@ -100,14 +100,14 @@ impl Names {
         Ok(())
     }
 
-    /// The name of a thing: the first that stands for it.
+    /// Returns the name of a thing: the first that refers to it.
     pub fn name_of(&self, thing: Thing) -> Option<Name>
         ensures { result ≡ option_map (λ (named : ModelName). named.text) (find (λ (named : ModelName). is_same_thing named.thing (seen_thing thing)) self.now.list) }
     {
         self.firsts.get(&ThingKey::of(thing)).copied()
     }
 
-    /// Whether a new name is free: a `TypeError` where it isn't.
+    /// Checks that a new name is free: a `TypeError` if it isn't.
     pub fn check_free(&self, name: Name) -> Result<(), ThrowKind>
         ensures answer { Finds (λ done. done) result (new_name self.now.list name) }
         ensures free { OnOk result (named_thing self.now.list name ≡ None) }
@@ -118,7 +118,7 @@ impl Names {
         }
     }
 
-    /// Whether a second new name of one command is free too, and another one than the first.
+    /// Checks that a second new name of one command is also free and differs from the first: a `TypeError` if not.
     pub fn check_also_free(&self, first: Name, name: Name) -> Result<(), ThrowKind>
         ensures answer { Finds (λ done. done) result (other_new_name self.now.list first name) }
         ensures free { OnOk result (named_thing self.now.list name ≡ None) }
@@ -140,7 +140,8 @@ impl Names {
         }
     }
 
-    /// The document of a name: a `ReferenceError` where it stands for nothing, a `TypeError` where for another thing.
+    /// Returns the document with this name: a `ReferenceError` if the name refers to nothing, a `TypeError` if it refers to
+    /// something else.
     pub fn document(&self, name: Name) -> Result<DocumentId, ThrowKind>
         ensures answer { Finds document_number result (document_named self.now.list name) }
         ensures held { (counts : Counts) → AreIn counts self.now.list → IfOk result (λ document. document.0 < counts.documents) }
@@ -151,7 +152,7 @@ impl Names {
         }
     }
 
-    /// The resize observer of a name, with the same exceptions.
+    /// Returns the resize observer with this name, with the same exceptions.
     pub fn observer(&self, name: Name) -> Result<ObserverId, ThrowKind>
         ensures answer { Finds (λ (observer : ObserverId). observer.0) result (resize_observer_named self.now.list name) }
         ensures held { (counts : Counts) → AreIn counts self.now.list → IfOk result (λ observer. observer.0 < counts.resize_observers) }
@@ -162,7 +163,7 @@ impl Names {
         }
     }
 
-    /// The intersection observer of a name, with the same exceptions.
+    /// Returns the intersection observer with this name, with the same exceptions.
     pub fn watcher(&self, name: Name) -> Result<WatcherId, ThrowKind>
         ensures answer { Finds (λ (watcher : WatcherId). watcher.0) result (intersection_observer_named self.now.list name) }
         ensures held { (counts : Counts) → AreIn counts self.now.list → IfOk result (λ watcher. watcher.0 < counts.intersection_observers) }
@@ -173,7 +174,7 @@ impl Names {
         }
     }
 
-    /// The query list of a name, with the same exceptions.
+    /// Returns the query list with this name, with the same exceptions.
     pub fn query_list(&self, name: Name) -> Result<u32, ThrowKind>
         ensures answer { Finds (λ query. query) result (query_list_named self.now.list name) }
         ensures held { (counts : Counts) → AreIn counts self.now.list → IfOk result (λ query. query < counts.queries) }
@@ -184,7 +185,7 @@ impl Names {
         }
     }
 
-    // What an operand stands for: `$target` is the target of the present entry.
+    // Returns what an operand refers to: `$target` is the target of the present entry.
     fn thing(&self, operand: Operand, subject: Option<NodeId>) -> Result<Thing, ThrowKind>
         ensures answer { Finds seen_thing result (operand_thing self.now.list (present_of subject) (operand_of operand)) }
         ensures held { (counts : Counts) → AreIn counts self.now.list → IsSubject counts.elements subject → IfOk result (λ thing. IsThingIn counts (seen_thing thing)) }
@@ -198,7 +199,8 @@ impl Names {
         }
     }
 
-    /// The element that an operand stands for, with the same exceptions; a `ReferenceError` for `$target` without a present entry.
+    /// Returns the element that an operand refers to, with the same exceptions; a `ReferenceError` for `$target` without a
+    /// present entry.
     pub fn element(&self, operand: Operand, subject: Option<NodeId>) -> Result<NodeId, ThrowKind>
         ensures answer { Finds number result (element_meant self.now.list (present_of subject) (operand_of operand)) }
         ensures held { (counts : Counts) → AreIn counts self.now.list → IsSubject counts.elements subject → IfOk result (λ node. node.0 < counts.elements) }
@@ -209,7 +211,7 @@ impl Names {
         }
     }
 
-    /// The element or the document that an operand stands for, with the same exceptions.
+    /// Returns the element or document that an operand refers to, with the same exceptions.
     pub fn container(
         &self,
         operand: Operand,
@@ -224,7 +226,7 @@ impl Names {
         }
     }
 
-    /// What an event can be fired at: an element, a document or a query list, or the window of a document.
+    /// Returns the event target that an operand refers to: an element, a document, a query list, or the window of a document.
     pub fn event_target(&self, aim: Aim, subject: Option<NodeId>) -> Result<EventTarget, ThrowKind>
         ensures answer { Finds seen_target result (event_target_meant self.now.list (present_of subject) (aim_of aim)) }
         ensures held { (counts : Counts) → AreIn counts self.now.list → IsSubject counts.elements subject → IfOk result (λ target. IsEventTargetIn counts (seen_target target)) }
@@ -242,7 +244,7 @@ impl Names {
     }
 }
 
-// Keeps a name that is given to a thing, unless the thing has one already. There is room for it.
+// Stores the name of a thing, unless the thing already has one. There is capacity for it.
 fn keep_first(firsts: &mut IndexMap<ThingKey, Name>, key: ThingKey, name: Name)
     requires { 0 < spare firsts.old }
     ensures kept { (names : List ModelName) → AreFirst names firsts.old.entries → AreFirst (names ++ record { text = name; thing = seen_key key } ∷ []) firsts.new.entries }

@@ -1,4 +1,4 @@
-//! What a name stands for, and what a command takes it as.
+//! What a name refers to, and conversions to what a command expects.
 
 ghost use Rattle.std.specs.Prelude.{◌≡◌, ◌<◌, IfOk};
 ghost use Rattle.element_tree.specs.Documents.{document_number};
@@ -17,7 +17,7 @@ use intersection_observer::WatcherId;
 use resize_observer::ObserverId;
 use text_io::ThrowKind;
 
-/// What a name stands for.
+/// What a name refers to.
 #[derive(Clone, Copy, Debug, PartialEq, Eq)]
 pub enum Thing {
     Document(DocumentId),

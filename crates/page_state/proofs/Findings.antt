@@ -32,7 +32,7 @@ use Rattle.kept_findings.proofs.Observed.{registered_observed, registered_unobse
 use Rattle.kept_findings.proofs.Registering.{undone, put_own}
 use Rattle.kept_findings.proofs.Settled.{apart_test, kept_other}
 use Rattle.page_state.specs.Findings.{KeepsFindings}
-use Rattle.intersection_observer.proofs.Counts.{some_from}
+use Rattle.intersection_observer.proofs.Counts.{some_from, none_mapped}
 use Rattle.intersection_update.proofs.Lists.{unchanged}
 
 -- where nothing is changed, or there is room for more alone
@@ -104,10 +104,6 @@ keeps_then first second third was then now one two fewer = record {
 pub registers_some : {there room : Bool} {given : ℕ} {found : Option RegistrationId} {registration : RegistrationId} → found ≡ Some registration → Registers (Ok found) there room given
     → (there ≡ false) × (room ≡ true) × (registration.0 ≡ given)
 registers_some {there} {room} {given} is answer = subst (λ (o : Option RegistrationId). Registers (Ok o) there room given) is answer
-
-none_mapped : {A B : Type 0} (f : A → B) (o : Option A) → option_map f o ≡ None → o ≡ None
-none_mapped f None none = refl
-none_mapped f (Some x) none = absurd (false≢true (sym (ap (λ (o : Option _). is_some o) none)))
 
 module _ (watchers : IntersectionObservers) (margins : List Margins) (it : HeldFindings) (serial : ℕ) (registered : AreRegistered watchers margins it) (none : standing_of serial watchers ≡ None) where
   pub no_pair : pair_at it.clips serial ≡ None

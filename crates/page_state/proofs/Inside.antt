@@ -3,6 +3,7 @@ use Rattle.std.proofs.Common.{◌≡◌, ℕ, zero, suc, ◌<◌, ◌≤◌, ◌
 use Rattle.std.specs.Global.{Vec}
 use Rattle.std.specs.Prelude.{slice_get}
 use Rattle.std.specs.List.{AllByRecursion}
+use Rattle.std.proofs.lemmas.List.{length_push}
 use Rattle.text_io.specs.declared.kinds.ThrowKind.{ThrowKind}
 use Rattle.text_io.specs.declared.kinds.Version.{Version}
 use Rattle.page_model.specs.World.{DocumentThing, ElementThing, ResizeObserverThing, IntersectionObserverThing, QueryListThing, Name, Root}
@@ -169,10 +170,6 @@ module _ (page : Inside) (is : IsPage page) (after : LaidElements) (names : Know
       (names_more one after.elements counts (record { text = inside; thing = DocumentThing documents }) (sym count) known_one names_one)
       (room_document (elements + 1) documents findings (subst (λ (d : ℕ). MayBeSeen findings.seen findings.clips (view_spot d)) framed shown) (room_one n number seen))
 
-one_longer : {A : Type 0} (xs : List A) (x : A) → length (xs ++ x ∷ []) ≡ length xs + 1
-one_longer [] x = refl
-one_longer (first ∷ xs) x = ap suc (one_longer xs x) ∙ omega arith
-
 -- a resize observer is made, last, with its name
 pub watched_page : (page : Inside) (names : KnownNames) (after : HeldObservers) (text : List ℕ) (document n : ℕ) (handler : Option ℕ) → IsPage page
     → names.list ≡ page.names.list ++ record { text = text; thing = ResizeObserverThing n } ∷ [] → n ≡ length page.observers.part.made
@@ -183,7 +180,7 @@ watched_page page names after text document n handler is given number made =
     let list : List Name = page.names.list ++ record { text = text; thing = ResizeObserverThing observers } ∷ [] in
     let listed : names.list ≡ list = given ∙ ap (λ (m : ℕ). page.names.list ++ record { text = text; thing = ResizeObserverThing m } ∷ []) number in
     let new : HeldObservers = record (page.observers) { part = with_resize_observer document handler (page.observers.part) } in
-    let count : length new.part.made ≡ observers + 1 = one_longer page.observers.part.made _ in
+    let count : length new.part.made ≡ observers + 1 = length_push page.observers.part.made _ in
     subst (λ (it : HeldObservers). IsPage (record page { names = names; observers = it })) (sym made)
     (record {
       version = is.version;
@@ -231,7 +228,7 @@ seeing_page page names after scroll text document n handler root margins moves t
     let list : List Name = page.names.list ++ record { text = text; thing = IntersectionObserverThing watchers } ∷ [] in
     let listed : names.list ≡ list = given ∙ ap (λ (m : ℕ). page.names.list ++ record { text = text; thing = IntersectionObserverThing m } ∷ []) number in
     let new : HeldWatchers = record (page.watchers) { part = with_intersection_observer document handler root margins thresholds (page.watchers.part) } in
-    let count : length new.part.made ≡ watchers + 1 = one_longer page.watchers.part.made _ in
+    let count : length new.part.made ≡ watchers + 1 = length_push page.watchers.part.made _ in
     subst (λ (it : HeldWatchers). IsPage (record page { names = names; watchers = it; scroll_margins = scroll })) (sym made)
     (record {
       version = is.version;
@@ -255,7 +252,7 @@ seeing_page page names after scroll text document n handler root margins moves t
       frame_callbacks = is.frame_callbacks;
       timers = is.timers;
       watched = kept_made (length page.laid.elements.tree.elements) document handler root margins thresholds page.watchers.part is.watched;
-      margins = ap (λ (it : List Margins). length it) put ∙ one_longer page.scroll_margins.items moves ∙ ap (λ (m : ℕ). m + 1) is.margins ∙ sym count;
+      margins = ap (λ (it : List Margins). length it) put ∙ length_push page.scroll_margins.items moves ∙ ap (λ (m : ℕ). m + 1) is.margins ∙ sym count;
       registered = registered_made page.watchers.part page.scroll_margins.items scroll.items _ page.findings refl
           (λ watcher there. ap (λ (it : List Margins). scroll_margins_at it watcher) put ∙ margins_before page.scroll_margins.items moves watcher (subst (λ (m : ℕ). watcher < m) (sym is.margins) there)) is.registered;
       room = is.room;
@@ -281,7 +278,7 @@ module _ (page : Inside) (names : KnownNames) (queries : List QueryList) (text :
   listed = given ∙ ap (λ (m : ℕ). page.names.list ++ record { text = text; thing = QueryListThing m } ∷ []) number
 
   more : length queries ≡ length page.queries.items + 1
-  more = ap (λ (it : List QueryList). length it) made ∙ one_longer page.queries.items last
+  more = ap (λ (it : List QueryList). length it) made ∙ length_push page.queries.items last
 
   pub query_known : AreKnown names.list (record (counts_in page) { queries = length queries })
   query_known =

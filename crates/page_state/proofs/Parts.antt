@@ -1,6 +1,7 @@
 -- What a page keeps true, once a part of it was changed.
 use Rattle.std.proofs.Common.{◌≡◌, ℕ, zero, suc, ◌+◌, ◌<◌, ℤ, pos, ◌≤ℤ◌, Bool, true, false, List, [], ◌∷◌, ◌++◌, Option, Some, length, find, is_some, slice_get, unwrap_or, option_map, ◌==◌, refl, sym, ap, ◌∙◌, subst, arith, tests}
 use Rattle.std.proofs.lemmas.Int.{ints}
+use Rattle.std.proofs.lemmas.List.{length_push}
 use Rattle.px_units.specs.declared.Size.{Size}
 use Rattle.page_model.specs.World.{Thing, DocumentThing, ElementThing, ResizeObserverThing, IntersectionObserverThing, QueryListThing, Name}
 use Rattle.page_model.specs.Names.{is_same_thing, element_text}
@@ -169,10 +170,6 @@ get_last : {A : Type 0} (xs : List A) (x : A) → slice_get (xs ++ x ∷ []) (le
 get_last [] x = refl
 get_last (first ∷ xs) x = get_last xs x
 
-length_more : {A : Type 0} (xs : List A) (x : A) → length (xs ++ x ∷ []) ≡ length xs + 1
-length_more [] x = refl
-length_more (first ∷ xs) x = ap suc (length_more xs x) ∙ omega arith
-
 module _ (names : List Name) (tree after : PageElements) (same : AreElementNames names tree) where
   module _ (counts : Counts) (is-count : counts.elements ≡ length tree.tree.elements) (known : AreKnown names counts) (text : List ℕ) where
     abbrev last : Name
@@ -201,7 +198,7 @@ module _ (names : List Name) (tree after : PageElements) (same : AreElementNames
     pub names_made : after.names ≡ tree.names ++ text ∷ [] → length after.tree.elements ≡ length tree.tree.elements + 1
         → AreElementNames (names ++ record { text = text; thing = ElementThing (length tree.tree.elements) } ∷ []) after
     names_made more count = record {
-      count = ap (λ (it : List (List ℕ)). length it) more ∙ (length_more tree.names text ∙ (ap (λ (n : ℕ). n + 1) same.count ∙ sym count));
+      count = ap (λ (it : List (List ℕ)). length it) more ∙ (length_push tree.names text ∙ (ap (λ (n : ℕ). n + 1) same.count ∙ sym count));
       each = λ n below. ap (λ (it : List (List ℕ)). slice_get it n) more ∙ each_name n (subst (λ (most : ℕ). n < most) count below);
     }
 

@@ -1,4 +1,4 @@
--- What becomes of the boxes that a page keeps. That boxes are kept, and when they are computed, is this project's own.
+-- How commands change the boxes that a page keeps. That boxes are kept, and when they are computed, is this project's own.
 use Rattle.std.specs.Prelude.{◌≡◌, ◌≤◌, ℕ, ◌+◌, Bool, ◌||◌, List, Option, Some, None, option_map, option_and_then, Result, OnOk, OnErr}
 use Rattle.script_model.specs.Syntax.{Operand, Test, Wider, Taller, Matches, Attached, Seen, Action, SetRatio, MakeBlock, MakeImage, MakeFrame, Append, Before, Remove, SetStyle, Grow, Load, MakeQueryList, ScrollTo, ScrollBy, Read}
 use Rattle.page_model.specs.World.{Tree, World, Container, InElement, InDocument}
@@ -13,32 +13,34 @@ use Rattle.page_layout.specs.Marks.{element_of, is_over, MarksOnly, MarksNone}
 use Rattle.page_state.specs.declared.answers.Effect.{Effect}
 use Rattle.page_state.specs.declared.answers.PageFault.{PageFault}
 
--- how many boxes are due in a world
+-- the number of boxes that are due in a world
 abbrev pub due_count : World → List Slot → ℕ
 due_count world kept = due_count_in world.tree world.viewports.screen kept
 
--- boxes are computed: the steps are at most the boxes that were due and aren't afterwards. No mark is set, and no box dropped
+-- boxes are computed; the steps that this takes are at most the decrease in the number of due boxes. No mark is set, and no box
+-- is dropped
 pub record Computes (world : World) (old new : List Slot) (from to : ℕ) : Type 0 where
   pub fills : FillsOnly old new
   pub ticks : to + due_count world new ≤ from + due_count world old
 
--- so they are in a document and in those around it alone, or nowhere
+-- the same for boxes of the given document and of the documents around it only, or for no box if no document is given
 pub record ComputesIn (world : World) (document : Option ℕ) (old new : List Slot) (from to : ℕ) : Type 0 where
   pub computes : Computes world old new from to
   pub others : LeavesOthers world.tree document old new
 
--- these elements are marked where a command was done, and nothing else is; nothing is where it wasn't
+-- a command that succeeds marks these elements and changes nothing else; one that is refused changes nothing
 pub record Marks (marked : ℕ → Bool) (result : Result Effect PageFault) (old new : List Slot) : Type 0 where
   pub done : OnOk result (MarksOnly marked old new)
   pub refused : OnErr result (new ≡ old)
 
--- what is made has no box: nothing that is kept changes, and in the tree afterwards the same boxes are due as before, so no more
+-- an element that was just made has no box: nothing that is kept changes, the same boxes are due in the tree afterwards as were
+-- before, and there are no more of them
 pub record LeavesDue (world : World) (after : Tree) (old new : List Slot) : Type 0 where
   pub marks : MarksNone old new
   pub due : (n : ℕ) → is_due after world.viewports.screen new n ≡ is_due world.tree world.viewports.screen old n
   pub count : due_count_in after world.viewports.screen new ≤ due_count world old
 
--- by another ratio of device pixels the same boxes are due as before
+-- with another device pixel ratio the same boxes are due as before
 abbrev pub StaysDue : (hundredths : ℕ) → (world : World) → (old new : List Slot) → Type 0
 StaysDue hundredths world old new =
     (n : ℕ) → is_due world.tree (record (world.viewports.screen) { ratio = hundredths }) new n ≡ is_due world.tree (world.viewports.screen) old n
@@ -48,19 +50,19 @@ found (Did value) = Some value
 found (Threw kind) = None
 found (Met kind) = None
 
--- the element that an operand stands for, and the one that a parent is
+-- the element that an operand refers to, if any
 abbrev pub meant : World → Present → Operand → Option ℕ
 meant world present operand = found (element_meant world.names present operand)
 
--- the document that an operand is an element of, or is
+-- the document that an operand refers to, or that of the element that it refers to, if any
 abbrev pub document_meant : World → Present → Operand → Option ℕ
 document_meant world present operand = option_map (document_of_container world.tree) (found (container_meant world.names present operand))
 
--- the document that the size of the viewport of a named document rests on
+-- the document on whose boxes the viewport size of a named document depends, if any
 abbrev pub viewport_rests_on : World → List ℕ → Option ℕ
 viewport_rests_on world name = option_and_then (λ document. rests_on world.tree (InDocument document)) (found (document_named world.names name))
 
--- the document that the answer to a condition rests on
+-- the document on whose boxes the answer to a condition depends, if any
 abbrev pub answer_rests_on : World → Present → Test → Option ℕ
 answer_rests_on world present (Wider node _) = option_and_then (λ n. rests_on world.tree (InElement n)) (meant world present node)
 answer_rests_on world present (Taller node _) = option_and_then (λ n. rests_on world.tree (InElement n)) (meant world present node)
@@ -77,14 +79,14 @@ abbrev pub parent : Tree → Option ℕ → Option ℕ
 parent tree None = None
 parent tree (Some n) = (nodes_of tree n).parent
 
--- where an element moves, the parent that it leaves and the one that it comes to are marked, with their ancestors
+-- when an element moves, its old parent and its new one are marked, with their ancestors
 abbrev pub is_moved : Tree → Tree → Option ℕ → Option ℕ → ℕ → Bool
 is_moved before after node to m = is_over after (parent before node) m || is_over after to m
 
 abbrev pub Still : List Slot → List Slot → ℕ → ℕ → Type 0
 Still old new from to = (new ≡ old) × (to ≡ from)
 
--- what each command may do to the boxes, and with how many steps, in a world with this tree afterwards
+-- what each command may do to the boxes, and in how many steps; `after` is the tree of the world afterwards
 abbrev pub BoxesAfter : Present → Action → Result Effect PageFault → World → Tree → List Slot → List Slot → ℕ → ℕ → Type 0
 BoxesAfter _ (SetRatio hundredths) _ world _ old new from to = Still old new from to × StaysDue hundredths world old new
 BoxesAfter _ (MakeBlock _ _) _ world after old new from to = LeavesDue world after old new × (to ≡ from)

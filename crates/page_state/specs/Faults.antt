@@ -1,4 +1,4 @@
--- What the refusals of a page's parts come to.
+-- The page's fault for each refusal by one of its parts.
 use Rattle.page_tree.specs.declared.faults.PlaceFault.{PlaceFault}
 use Rattle.page_tree.specs.declared.faults.PlaceFault.TheVariants as place
 use Rattle.page_tree.specs.declared.faults.MakeFault.{MakeFault}
@@ -21,13 +21,13 @@ abbrev pub unmade : MakeFault → PageFault
 unmade (make.Limit kind) = Limit kind
 unmade make.Memory = Memory
 
--- of a table with this limit
+-- for a table with this limit
 abbrev pub untabled : LimitKind → TableFault → PageFault
 untabled limit table.Taken = Throw TypeError
 untabled limit table.Limit = Limit limit
 untabled limit table.Memory = Memory
 
--- of one more registration
+-- for one more registration
 abbrev pub unwatched : WatchFault → PageFault
 unwatched watch.Limit = Limit IntersectionObservations
 unwatched watch.Memory = Memory

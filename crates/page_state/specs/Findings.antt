@@ -1,4 +1,5 @@
--- What becomes of what a page keeps of registrations. That it is kept, and when it is computed, is this project's own.
+-- How commands and updates change what a page keeps of registrations. That it is kept, and when it is computed, is this project's
+-- own.
 use Rattle.std.specs.Prelude.{◌≡◌, ◌≤◌, ◌+◌, ◌⊎◌, ℕ, false, List, IsSome, IfSome}
 use Rattle.script_model.specs.Margins.{Margins}
 use Rattle.page_model.specs.World.{IntersectionObservers}
@@ -23,7 +24,8 @@ use Rattle.intersection_update.specs.Updating.{found_through}
 use Rattle.page_state.specs.Boxes.{due_count}
 use Rattle.page_state.specs.Views.{PageView}
 
--- no spot is seen or touched, and of each registration that stands before and after, the pair with its clip and what was found stay
+-- no spot is seen or touched anew, and of each registration that exists before and after, the pair with its clip and what was
+-- found stay the same
 pub record KeepsFindings (before after : IntersectionObservers) (old new : HeldFindings) : Type 0 where
   pub sightings : (spot : Container) → sighting_of new.seen spot ≡ sighting_of old.seen spot
   pub count : new.clips.touches.count ≡ old.clips.touches.count
@@ -31,15 +33,17 @@ pub record KeepsFindings (before after : IntersectionObservers) (old new : HeldF
   pub pairs : (serial : ℕ) → IsStanding serial before → IsStanding serial after → pair_at new.clips serial ≡ pair_at old.clips serial
   pub findings : (serial : ℕ) → IsStanding serial before → IsStanding serial after → kept_of new.kept serial ≡ kept_of old.kept serial
 
--- what is kept of a registration is what is found of it through its observer's scroll margins, as it is told
+-- something is kept of the registration: in the coordinates of a world's findings it is what is found through the scroll margins
+-- of the registration's observer
 pub record IsFound (shown : Shown) (margins : List Margins) (it : IntersectionObservers) (found : HeldFindings) (serial : ℕ) : Type 0 where
   pub some : IsSome (kept_of found.kept serial)
   pub told : IfSome (kept_of found.kept serial)
       (λ (last : Kept). telling_of shown (observer_of it serial).root (target_of it serial) (seen_finding last.finding) ≡ found_through shown margins (place_of it serial).watcher (observer_of it serial) (target_of it serial))
 
--- what an update of a document does to what is kept: a spot is touched exactly where it is seen anew, and only on the chains of the registrations that are looked at;
--- what was found of a registration stays where it isn't stale, and where its observer's root isn't the document's; and a registration of which a clip was computed still
--- has one
+-- what an update of a document does to what is kept: a spot is touched exactly if it is seen to differ from when it was last
+-- seen, and only spots on the chains of the registrations that the update looks at are. What was found of a registration stays if
+-- it isn't stale, and likewise if its observer's root belongs to another document. A registration of which a clip was computed
+-- still has one
 pub record Updates (shown : Shown) (margins : List Margins) (document : ℕ) (it : IntersectionObservers) (old new : HeldFindings) : Type 0 where
   pub touched : ChangesByLooks (scene_of shown) old.seen new.seen old.clips.touches new.clips.touches
   pub left : (spot : Container) → ((serial : ℕ) → IsLookedAt shown.tree document it serial → IsOff shown it spot serial) →
@@ -48,19 +52,21 @@ pub record Updates (shown : Shown) (margins : List Margins) (document : ℕ) (it
   pub others : (serial : ℕ) → is_rooted_in shown.tree document (observer_of it serial).root ≡ false → kept_of new.kept serial ≡ kept_of old.kept serial
   pub computed : KeepsComputed old.clips new.clips
 
--- of the registrations that are looked at with a document each spot on the chain was seen last as it is shown, and none is stale
+-- for each registration that an update of the document looks at, each spot on its chain was last seen as it is shown now, and
+-- what is kept of it isn't stale
 pub record AreUpdated (shown : Shown) (margins : List Margins) (document : ℕ) (it : IntersectionObservers) (found : HeldFindings) : Type 0 where
   pub seen : (serial : ℕ) → IsLookedAt shown.tree document it serial → IsSeen shown it found.seen serial
   pub fresh : (chained : HaveChains shown) (serial : ℕ) → IsLookedAt shown.tree document it serial → is_stale_in shown margins chained it found.kept serial ≡ false
 
--- an update that was refused memory: at a registration, or for the notify task alone once all were settled
+-- an update that was refused memory: at a registration, or only for the notify task, after all registrations were settled
 abbrev pub IsUnfinished : (shown : Shown) → List Margins → HaveChains shown → (document time : ℕ) → (before now : IntersectionObservers) → (old new : HeldFindings) → Type 0
 IsUnfinished shown margins chained document time before now old new =
     IsRefused shown margins chained document time before now old.kept new.kept ⊎ AreUpdated shown margins document now new
 
--- the steps of an update, with the boxes that are due afterwards: at most the boxes that were due, one for each stale registration of the document's observers, and for
--- each registration of theirs whose chain leads to its root and whose clip was never computed or has a spot touched since on its chain, one for each spot strictly between
--- target and root, or two where as many touches were made as are counted
+-- the steps of an update and the boxes that are due afterwards are together at most the sum of these: the boxes that were due
+-- before; one for each stale registration of the observers rooted in the document; and for each of their registrations whose
+-- chain leads to its root and whose clip was never computed, or has a spot on its chain that was touched since, one for each spot
+-- strictly between target and root, or two if the count of touches has reached its last number
 abbrev pub TakesAtMost : (document : ℕ) → (before after : PageView) → HaveChains (shown_of before.world) → (from to : ℕ) → Type 0
 TakesAtMost document before after chained from to =
     to + due_count before.world after.kept

@@ -1,4 +1,4 @@
--- The names of what there is in a page, and whose it is.
+-- The names of the things in a page, their documents and their handlers.
 use Rattle.std.specs.Prelude.{ℕ, ◌<◌, List, length, Option, None}
 use Rattle.page_model.specs.World.{World, EventTarget as ModelContainer, ElementTarget, DocumentTarget, WindowTarget, QueryTarget}
 use Rattle.page_model.specs.Lookups.{resize_observer_at, intersection_observer_at}
@@ -28,19 +28,19 @@ IsTargetIn world (DocumentTarget document) = document < length world.tree.docume
 IsTargetIn world (WindowTarget document) = document < length world.tree.documents
 IsTargetIn world (QueryTarget query) = query < length world.queries
 
--- there is such a thing
+-- the thing with this label exists
 abbrev pub IsLabelIn : World → Label → Type 0
 IsLabelIn world (Target target) = IsTargetIn world (seen_target target)
 IsLabelIn world (Observer observer) = observer.0 < length world.resize_observers.made
 IsLabelIn world (Watcher watcher) = watcher.0 < length world.intersection_observers.made
 
--- an observer that is asked for its callback is there
+-- a thing that is asked for its handler: an observer has to exist, an event target doesn't
 abbrev pub IsCallerIn : World → Label → Type 0
 IsCallerIn world (Target target) = Unit {0}
 IsCallerIn world (Observer observer) = observer.0 < length world.resize_observers.made
 IsCallerIn world (Watcher watcher) = watcher.0 < length world.intersection_observers.made
 
--- the document that decides whether its callbacks are called
+-- the document that decides whether the callbacks of a thing are called
 abbrev pub label_document : World → Label → ℕ
 label_document world (Target target) = document_of_target world (seen_target target)
 label_document world (Observer observer) = (resize_observer_at world.resize_observers observer.0).document
@@ -52,7 +52,7 @@ label_handler world (Target target) = None
 label_handler world (Observer observer) = (resize_observer_at world.resize_observers observer.0).handler
 label_handler world (Watcher watcher) = (intersection_observer_at world.intersection_observers watcher.0).handler
 
--- an element or a document that there is
+-- an element or a document that exists
 abbrev pub IsIn : World → Container → Type 0
 IsIn world (Inside node) = node.0 < length world.tree.elements
 IsIn world (Top document) = document.0 < length world.tree.documents

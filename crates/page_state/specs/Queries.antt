@@ -11,19 +11,20 @@ use Rattle.page_state.specs.declared.queries.QueryList.{QueryList}
 abbrev pub seen_query_list : QueryList → ModelQueryList
 seen_query_list it = record { document = it.document.0; query = it.query; matched = it.matched }
 
--- whether a query list is one of a document and has another state in this viewport than at its last evaluation or creation
+-- whether a query list belongs to a document and its matches state in this viewport differs from the one at its last evaluation
+-- or at its creation
 abbrev pub is_changed : ℕ → Extent → ModelQueryList → Bool
 is_changed document viewport list = list.document == document && not (is_same_bool (matches_in (list.query) viewport) list.matched)
 
--- the number of the first such query list from a place on
+-- the number of the first such query list at or after a place
 abbrev pub changed_from : ℕ → ℕ → Extent → List ModelQueryList → Option ℕ
 changed_from document place viewport queries = option_map (λ number. place + number) (position (is_changed document viewport) (drop place queries))
 
--- in the viewport of a document as it is now
+-- the same by the viewport of the document as it is now
 abbrev pub next_changed : ℕ → ℕ → World → Option ℕ
 next_changed document place world = changed_from document place (viewport_of (world.tree) (world.viewports.screen) document) (world.queries)
 
--- the world once this query list was evaluated for its document
+-- the world after this query list, if any, was evaluated in the viewport of the document
 abbrev pub once_evaluated : ℕ → Option ℕ → World → World
 once_evaluated document None world = world
 once_evaluated document (Some query) world =

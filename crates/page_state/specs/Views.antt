@@ -1,5 +1,5 @@
--- What a page is seen as: a world, whether a command was begun and not applied yet, what is kept of the elements' boxes, and what is
--- kept of registrations.
+-- The view of a page: its world, whether a command was begun and isn't applied yet, what is kept of the elements' boxes, and what
+-- is kept of registrations.
 use Rattle.std.specs.Prelude.{Bool, List}
 use Rattle.page_model.specs.World.{World}
 use Rattle.kept_layout.specs.declared.slots.Slot.{Slot}

@@ -7,7 +7,7 @@ use Rattle.script_model.specs.MarginText.{thresholds_of}
 use Rattle.page_model.specs.World.{IntersectionObservers}
 use Rattle.page_model.specs.Steps.{Step, Did, ◌>>=◌, ◌>>◌, required, room}
 
--- the thresholds of one more observer: values out of range are thrown for, and then the limit on observers is met
+-- the thresholds of one more observer: values out of range throw before the limit on observers is considered
 abbrev pub new_thresholds : Version → List ℤ → IntersectionObservers → Step (List ℕ)
 new_thresholds version values it = do
   thresholds ← required RangeError (thresholds_of values)

@@ -1,4 +1,4 @@
--- What a page keeps true of its parts: one fact for each part that has one, and one for each two parts that go together.
+-- The invariants of a page: one for each part that has one, and one for each pair of parts that must agree.
 use Rattle.std.specs.Prelude.{◌≡◌, ℕ, ◌+◌, ◌≤◌, ◌<◌, Bool, true, cond, is_some, find, slice_get, List, length, Option, Some}
 use Rattle.std.specs.List.{AllByRecursion}
 use Rattle.std.specs.Option.{ForSome}
@@ -24,17 +24,17 @@ use Rattle.page_state.specs.Worlds.{counts_in}
 use Rattle.page_state.specs.declared.page.Page.TheInside.{Inside}
 use Rattle.page_state.specs.declared.queries.QueryList.{QueryList}
 
--- names and things: each name stands for something that there is, and each thing that there is has a name
+-- names and things: each name refers to a thing that exists, and each thing that exists has a name
 pub record AreKnown (names : List Name) (counts : Counts) : Type 0 where
   pub there : AreIn counts names
   pub named : (thing : Thing) → IsThingIn counts thing → is_some (find (λ (named : Name). is_same_thing named.thing thing) names) ≡ true
 
--- names and tree: the tree has each element's name
+-- names and tree: the tree holds the name of each element
 pub record AreElementNames (names : List Name) (tree : PageElements) : Type 0 where
   pub count : length tree.names ≡ length tree.tree.elements
   pub each : (n : ℕ) → n < length tree.tree.elements → slice_get tree.names n ≡ Some (element_text names n)
 
--- the parts have the limits of a page for a script of a version
+-- the limits held in the parts are those of a script of this version
 pub record AreLimited (version : Version) (watching : HeldObservers) (seeing : HeldWatchers) (hearing : Bounded Listener) (requested : Bounded FrameCallback) (set : Bounded Timer) (waiting : WaitingTasks) : Type 0 where
   pub observers : watching.most_observers ≡ limit_number version limits.ResizeObservers
   pub observations : watching.most_observations ≡ limit_number version limits.ResizeObservations
@@ -45,12 +45,14 @@ pub record AreLimited (version : Version) (watching : HeldObservers) (seeing : H
   pub timers : set.most ≡ limit_number version limits.Timers
   pub tasks : waiting.most ≡ limit_number version limits.Tasks
 
--- a serial number of a table is given by a command, and a command that was begun may give one yet
+-- a command gives at most one serial number of a table; one that was begun and isn't applied yet, which `flag` tells, may still
+-- give one
 pub record IsCounted (version : Version) (serials begun : ℕ) (flag : Bool) : Type 0 where
   pub given : serials + cond flag 1 0 ≤ begun
   pub limited : begun ≤ limit_number version limits.Commands
 
--- query lists and documents: each list is of a document that there is, and there are no more than a page may have
+-- query lists and documents: each list belongs to a document that exists, and the number of lists is within the limit of the
+-- version
 pub record AreAsked (version : Version) (queries : List QueryList) (count : ℕ) : Type 0 where
   pub documents : AllByRecursion (λ (it : QueryList). it.document.0 < count) queries
   pub few : length queries ≤ limit_number version limits.Queries

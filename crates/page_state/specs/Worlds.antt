@@ -1,4 +1,4 @@
--- The world that a page's parts are, and what a page is seen as.
+-- The world that the parts of a page make up, and the view of a page that its contracts use.
 use Rattle.std.specs.Prelude.{map, length, option_map}
 use Rattle.page_model.specs.World.{World}
 use Rattle.page_model.specs.Ranges.{Counts}
@@ -30,7 +30,7 @@ world_of p = record {
 abbrev pub view_of : Inside → PageView
 view_of p = record { world = world_of p; begun = p.begun; kept = p.laid.kept; found = p.findings }
 
--- how much there is of what has a name
+-- how many things there are of each kind that has names; handlers aren't kept in a page
 abbrev pub counts_in : Inside → Counts
 counts_in p = record {
   elements = length p.laid.elements.tree.elements;

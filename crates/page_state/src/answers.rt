@@ -1,4 +1,4 @@
-//! What a page's calls answer.
+//! The results and errors of a page's calls.
 
 use intersection_observer::{EntryList, WatcherId};
 use page_tree::MakeFault;
@@ -7,7 +7,7 @@ use text_io::{LimitKind, ThrowKind};
 use thiserror::Error;
 use trace_text::TraceLine;
 
-/// What a command that was applied asks of its caller.
+/// What the caller has to do after a command was applied.
 #[derive(Drop)]
 pub enum Effect {
     Nothing,
@@ -18,16 +18,16 @@ pub enum Effect {
     Taken(WatcherId, EntryList),
 }
 
-/// Why a call is refused. The page's world is then as it was.
+/// Why a call failed. The page's world is unchanged then.
 #[derive(Clone, Copy, Debug, PartialEq, Eq, Error)]
 pub enum PageFault {
-    /// An exception is thrown.
+    /// The command throws an exception.
     #[error("{} is thrown", .0.text())]
     Throw(ThrowKind),
-    /// A limit is met.
+    /// The command meets a limit.
     #[error("the limit of {} is met", .0.text())]
     Limit(LimitKind),
-    /// There is no memory.
+    /// Out of memory.
     #[error("out of memory")]
     Memory,
 }

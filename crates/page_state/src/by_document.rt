@@ -1,4 +1,4 @@
-//! What is kept of each document, up to the last one of which something is.
+//! A table by document, up to the last document that has an entry.
 
 ghost use Rattle.std.specs.Prelude.{◌≡◌, ◌<◌, IfOk, []};
 ghost use Rattle.page_model.specs.Lookups.{entry_or, put_at, change_at};
@@ -8,7 +8,7 @@ use page_documents::MOST_DOCUMENTS;
 use std::alloc::{AllocError, Global};
 use std::marker::Model;
 
-/// An entry for each document. The room for all is made at first, so that setting one takes no memory.
+/// An entry for each document. Capacity for all is reserved at first, so that setting one doesn't allocate.
 #[derive(Drop)]
 pub(crate) struct ByDocument<T> {
     entries: Vec<T>,
@@ -32,7 +32,7 @@ impl<T: Copy> ByDocument<T> {
         Ok(ByDocument { entries })
     }
 
-    // The entry of a document, the default where it has none.
+    // Returns the entry of a document, the default if it has none.
     pub(crate) fn get(&self, document: DocumentId, default: T) -> T
         ensures { result ≡ entry_or default self.now document.0 }
     {
@@ -42,7 +42,7 @@ impl<T: Copy> ByDocument<T> {
         }
     }
 
-    // Sets the entry of a document. Documents before it that have none get the default.
+    // Sets the entry of a document. Documents before it without an entry get the default.
     pub(crate) fn set(&mut self, document: DocumentId, value: T, default: T)
         requires { document.0 < 64 }
         ensures { self.new ≡ put_at default document.0 value self.old }

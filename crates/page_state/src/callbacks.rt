@@ -1,4 +1,4 @@
-//! What a tick and a dispatch ask of the event tables of a page (DOM, 2.9; HTML, timers, animation frames and tasks).
+//! The calls of ticks and dispatches on the event tables of a page (DOM, 2.9; HTML, timers, animation frames and tasks).
 
 ghost use Rattle.std.specs.Prelude.{◌≡◌, ℕ, List, find, map, option_map, IfOk, IfSome};
 ghost use Rattle.page_model.specs.World.{Listener as ModelListener};
@@ -33,8 +33,8 @@ impl Page {
         self.listeners.begin_dispatch(target, event)
     }
 
-    /// The handler of the first copied listener that still stands; it and those before it leave the dispatch. None exactly
-    /// where none of those that are left still stands.
+    /// Returns the handler of the first listener of the dispatch that is still registered; the dispatch is advanced past it.
+    /// `None` exactly when none of the rest is still registered.
     pub fn next_listener(&self, dispatch: &mut Dispatch) -> Option<HandlerId>
         ensures value { option_map (λ handler. handler.0) result ≡ option_map (λ (it : ModelListener). it.handler) (find (λ it. listener_stands it self.now.world.listeners) dispatch.old) }
         ensures left { dispatch.new ≡ behind_first (λ it. listener_stands it self.now.world.listeners) dispatch.old }
@@ -49,8 +49,8 @@ impl Page {
         self.frame_callbacks.begin(document)
     }
 
-    /// Takes out the first copied frame callback that still stands, and tells its key and handler; it and those before it
-    /// leave the batch. None exactly where none of those that are left still stands.
+    /// Removes the first frame callback of the batch that is still registered, and returns its key and handler; the batch is
+    /// advanced past it. `None` exactly when none of the rest is still registered.
     pub fn next_frame(&mut self, batch: &mut Batch) -> Option<(Name, HandlerId)>
         ensures value { option_map {U = List ℕ × ℕ} (λ called. (called.0, called.1.0)) result
             ≡ option_map frames.told (find (λ it. frame_callback_stands it self.old.world.frame_callbacks) batch.old) }
@@ -65,16 +65,15 @@ impl Page {
         self.frame_callbacks.next(batch)
     }
 
-    /// Copies the timers that are due at the clock, in order of their due times, and where these are equal in order of
-    /// making (HTML, timers).
+    /// Copies the timers that are due at the clock's time, ordered by due time and then by creation (HTML, timers).
     pub fn take_due(&self) -> Result<Batch, AllocError>
         ensures { IfOk result (λ batch. batch ≡ map callback_of (due_timers self.now.world.clock self.now.world.timers)) }
     {
         self.timers.take_due(self.clock)
     }
 
-    /// Takes out the first copied timer that still stands, and tells its document, key and handler; it and those before it
-    /// leave the batch. None exactly where none of those that are left still stands.
+    /// Removes the first timer of the batch that is still registered, and returns its document, key and handler; the batch is
+    /// advanced past it. `None` exactly when none of the rest is still registered.
     pub fn next_timer(&mut self, batch: &mut Batch) -> Option<(DocumentId, Name, HandlerId)>
         ensures value { option_map {U = ℕ × List ℕ × ℕ} (λ called. (called.0.0, called.1, called.2.0)) result
             ≡ option_map timers.told (find (copied_stands self.old.world.timers) batch.old) }
@@ -89,8 +88,8 @@ impl Page {
         self.timers.next(batch)
     }
 
-    /// Takes the first task off. None exactly where no task waits. A page that was ready for a tick is so with that task before all others
-    /// too, as `notify_list` asks it.
+    /// Removes and returns the first task. `None` exactly when no task is queued. A page that was ready for a tick is also
+    /// ready with that task put back in front, as `notify_list` requires.
     pub fn pop_task(&mut self) -> Option<Task>
         ensures value { option_map seen_task result ≡ first_of self.old.world.tasks }
         ensures left { self.new ≡ record self.old { world = record (self.old.world) { tasks = others_of (self.old.world.tasks) } } }
@@ -100,8 +99,8 @@ impl Page {
         self.tasks.pop()
     }
 
-    /// Hands out the list of what scrolled in a document since the last call, in order, and leaves it empty (CSSOM View,
-    /// 13: run the scroll steps). No memory.
+    /// Takes the list of the targets that scrolled in a document since the last call, in order, leaving it empty (CSSOM View,
+    /// 13: run the scroll steps). Doesn't allocate.
     pub fn take_scrolled(&mut self, document: DocumentId) -> Vec<Container>
         ensures value { seen_containers result.items ≡ pending_of document.0 self.old.world.scrolls }
         ensures taken { self.new ≡ record self.old { world = record (self.old.world) { scrolls = without_pending document.0 (self.old.world.scrolls) } } }

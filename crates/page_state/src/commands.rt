@@ -51,7 +51,7 @@ impl Page {
         Ok(Effect::Nothing)
     }
 
-    // Boxes are laid out in the size of the screen alone, so that none becomes due.
+    // Layout depends on the size of the screen only, so that no box becomes due.
     pub(crate) fn set_ratio(&mut self, ratio: Percent) -> Result<Effect, PageFault>
         requires { IsPercent ratio.0 }
         ensures done { (present : Present) → Keeps self.old self.new result (λ handlers. does handlers self.old.world present (SetRatio (unsigned_abs ratio.0))) }
@@ -59,7 +59,7 @@ impl Page {
         ensures due { StaysDue (unsigned_abs ratio.0) self.old.world self.old.kept self.new.kept }
         ensures findings { self.new.found ≡ self.old.found }
     {
-        // It tells that layout doesn't look at the ratio.
+        // Yields that layout doesn't depend on the ratio.
         boxes_do_not_read_the_ratio();
         self.screen.ratio = ratio;
         Ok(Effect::Nothing)
@@ -87,7 +87,7 @@ impl Page {
         self.make(name, document, ItemKind::Image(size))
     }
 
-    // That what is made has no box, so that the same boxes are due as before: so it is of every page, and the call does nothing.
+    // A new element has no box, so that the same boxes are due as before: a law about every page; the call does nothing.
     fn making_leaves_boxes(&self)
         ensures elements { (kind : KindOfItem) (document : ℕ) → KeepsBoxes self.now.world.tree (with_element (seen_kind kind) document None (self.now.world.tree)) }
         ensures frames { (document : ℕ) → KeepsBoxes self.now.world.tree (with_frame document (self.now.world.tree)) }
@@ -100,7 +100,8 @@ impl Page {
         self.laid.page().document_count();
     }
 
-    // The room for the element, its box and what is seen of it comes first, then its name, which is the last thing that may be refused.
+    // Capacity for the element, its box and its spot is reserved first; then comes its name, which is the last step that can
+    // fail.
     fn make(&mut self, name: Name, document: Name, kind: ItemKind) -> Result<Effect, PageFault>
         requires { IsMade kind }
         ensures done { Keeps self.old self.new result (λ handlers. making self.old.world name document (seen_kind kind)) }
@@ -117,8 +118,8 @@ impl Page {
         Ok(Effect::Nothing)
     }
 
-    // The room for the frame, its box, what is seen of it and of its document, and both names comes first, so that nothing is refused
-    // behind it.
+    // Capacity for the frame, its box, its spot and that of its document, and both names is reserved first, so that nothing
+    // after it can fail.
     pub(crate) fn make_frame(
         &mut self,
         name: Name,
@@ -185,7 +186,7 @@ impl Page {
         self.put(container, node, Some(sibling))
     }
 
-    // Puts an element somewhere.
+    // Inserts an element.
     fn put(
         &mut self,
         container: Container,
@@ -221,7 +222,7 @@ impl Page {
         Ok(Effect::Nothing)
     }
 
-    // Takes an element out of where it stands.
+    // Removes an element.
     fn take_out(&mut self, node: NodeId)
         requires { node.0 < length self.old.world.tree.elements }
         ensures removed { self.new ≡ record self.old { world = record (self.old.world) { tree = removed (self.old.world.tree) node.0 }; kept = self.new.kept } }
@@ -282,7 +283,7 @@ impl Page {
     }
 }
 
-// Why an element isn't put somewhere.
+// Maps the error of an insertion.
 fn refused(fault: PlaceFault) -> PageFault
     ensures { result ≡ misplaced fault }
 {

@@ -25,11 +25,12 @@ use step_count::Steps;
 use text_io::ThrowKind;
 
 impl Page {
-    /// Whether a condition holds, for the target of the present entry if there is one; `seen` tells whether that entry of
-    /// an intersection observer is intersecting, and is none for another one. The world and what was begun are as before. No memory.
+    /// Whether a condition holds, for the target of the present entry if there is one; `seen` is the isIntersecting of that
+    /// entry, `None` unless it is an intersection observer's. The world, and whether a command was begun, are unchanged.
+    /// Doesn't allocate.
     ///
     /// # Errors
-    /// An exception exactly where the definition says so.
+    /// An exception exactly when the definition throws it.
     #[tactic(auto, unfolding(page_model::specs::Commands::holds))]
     pub fn holds<L: Ledger>(
         &mut self,
@@ -51,7 +52,7 @@ impl Page {
         }
     }
 
-    // What is asked, before a `not`.
+    // Evaluates the test, ignoring a `not`.
     #[tactic(auto, unfolding(page_model::specs::Commands::asked), using(crate::proofs::Laid::computes_nothing))]
     fn ask<L: Ledger>(
         &mut self,
@@ -89,7 +90,7 @@ impl Page {
         }
     }
 
-    // The size of an element's border box as it is now.
+    // Returns the current size of an element's border box.
     fn border_size<L: Ledger>(&mut self, node: NodeId, steps: &mut Steps<L>) -> Size
         ensures value { seen_size result ≡ size_of self.old.world.tree self.old.world.viewports.screen node.0 Border }
         ensures same { self.new ≡ record self.old { kept = self.new.kept } }
@@ -118,7 +119,7 @@ fn is_seen(subject: Option<NodeId>, seen: Option<bool>) -> Result<bool, ThrowKin
     }
 }
 
-// Sizes and what they are compared with have no sign.
+// Sizes and what they are compared with are non-negative.
 fn is_wider(size: Size, than: Px) -> bool
     ensures { result ≡ nat_lt (unsigned_abs than.0) (unsigned_abs size.width) }
 {

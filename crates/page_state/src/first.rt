@@ -1,4 +1,4 @@
-//! What a page has as it opens, besides its elements and documents: the name `top`, and tables of which nothing is held.
+//! The initial state of a page besides its elements and documents: the name `top`, and empty tables.
 
 ghost use Rattle.std.specs.Prelude.{◌≡◌, ℕ, List, [], ◌∷◌, None, IfOk, codes};
 ghost use Rattle.text_io.specs.Limits.{limit_number};
@@ -23,7 +23,7 @@ use resize_observer::Observers;
 use std::alloc::{AllocError, Global};
 use text_io::{LimitKind, Name, Version};
 
-// The names: that of the document `top`.
+// The names: only that of the document `top`.
 fn names(alloc: Global) -> Result<Names, AllocError>
     ensures { IfOk result (λ names. names.list ≡ record { text = codes "top"; thing = DocumentThing 0 } ∷ []) }
 {
@@ -35,7 +35,7 @@ fn names(alloc: Global) -> Result<Names, AllocError>
     Ok(names)
 }
 
-// What is kept of registrations: nothing but the room for what is seen of `top`.
+// The cached findings: none, with room for the spot of `top`.
 fn findings(alloc: Global) -> Result<KeptFindings, AllocError>
     ensures roomier { IfOk result (λ it. IsRoomier no_findings it) }
     ensures room { IfOk result (λ it. MayBeSeen it.seen it.clips (view_spot 0)) }
@@ -46,8 +46,8 @@ fn findings(alloc: Global) -> Result<KeptFindings, AllocError>
     Ok(findings)
 }
 
-// All of a page but its elements and documents that may be refused memory: the names, what is kept of registrations, no document to which a
-// notify task is told, and no noted size.
+// All parts of a page whose creation can fail, except its elements and documents: the names, the cached findings, the notify
+// flags and the recorded viewport sizes, both empty.
 pub(crate) fn parts(
     alloc: Global,
 ) -> Result<
@@ -73,7 +73,7 @@ pub(crate) fn parts(
     Ok((names, findings, notifying, noted))
 }
 
-// The resize observers that a page for a script of a version begins with: none.
+// The resize observers of a new page for a script of a version: none.
 pub(crate) fn observers(alloc: Global, version: Version) -> Observers
     ensures { result ≡ record {
       part = record { given = 0; made = [] };
@@ -103,7 +103,7 @@ pub(crate) fn watchers(alloc: Global, version: Version) -> Watchers
     )
 }
 
-// The event tables, each of which is empty.
+// The event tables, all empty.
 pub(crate) fn tables(alloc: Global, version: Version) -> (Listeners, FrameCallbacks, Timers, Tasks)
     ensures listeners { result.0 ≡ record { part = record { given = 0; held = [] }; most = limit_number version limits.Listeners } }
     ensures frame_callbacks { result.1 ≡ record { part = record { given = 0; held = [] }; most = limit_number version limits.FrameCallbacks } }

@@ -62,7 +62,7 @@ impl Page {
         Ok(Effect::Nothing)
     }
 
-    // The thresholds of values, where there is room for one more observer. Want of memory comes last.
+    // Builds thresholds from values, if the limit allows one more observer. `Memory` comes last.
     fn thresholds_given(&self, values: &[i64]) -> Result<Thresholds, PageFault>
         ensures { Gives result (new_thresholds self.now.world.version values.now self.now.world.intersection_observers) }
     {
@@ -130,14 +130,14 @@ impl Page {
         ensures findings { KeepsFindings self.old.world.intersection_observers self.new.world.intersection_observers self.old.found self.new.found }
     {
         let watcher = self.watcher(observer)?;
-        // From the last one on, so that none has to move.
+        // From last to first, so that none has to be shifted.
         while let Some(target) = self.watchers.last_target(watcher) {
             self.forget_target(watcher, target);
         }
         Ok(Effect::Nothing)
     }
 
-    // Takes the registration of a target out, if there is one, with what is kept of it.
+    // Removes the registration of a target, if there is one, with its cached finding.
     fn forget_target(&mut self, watcher: WatcherId, target: NodeId)
         requires { watcher.0 < length self.old.world.intersection_observers.made }
         ensures unobserved { self.new ≡ record self.old {
@@ -148,7 +148,7 @@ impl Page {
         ensures count { length self.new.world.intersection_observers.made ≡ length self.old.world.intersection_observers.made }
         ensures fewer { (serial : ℕ) → IsStanding serial self.new.world.intersection_observers → IsStanding serial self.old.world.intersection_observers }
     {
-        // It tells that serial numbers name registrations.
+        // Yields that serial numbers identify registrations.
         self.watchers.registrations(watcher);
         let Some(taken) = self.watchers.unobserve(watcher, target) else {
             return;
@@ -166,7 +166,7 @@ impl Page {
     }
 }
 
-// What a refused registration comes to on the page.
+// Maps the error of a registration.
 fn refused(fault: WatchFault) -> PageFault
     ensures { result ≡ unwatched fault }
 {
@@ -176,7 +176,7 @@ fn refused(fault: WatchFault) -> PageFault
     }
 }
 
-// The margins that a text is.
+// Parses root margins.
 fn margins_given(text: &[u8]) -> Result<Margins, ThrowKind>
     ensures { Finds (λ margins. margins) result (required SyntaxError (margins_of text.now)) }
 {
@@ -186,7 +186,7 @@ fn margins_given(text: &[u8]) -> Result<Margins, ThrowKind>
     }
 }
 
-// The scroll margins that a text is, 0px on each side where none is given.
+// Parses scroll margins, 0px on each side if there are none.
 fn scroll_margins_given(text: &Option<MarginText>) -> Result<Margins, ThrowKind>
     ensures { Finds (λ margins. margins) result (required SyntaxError (margins_of (unwrap_or text.now []))) }
 {

@@ -1,4 +1,4 @@
-//! The names of what trace lines tell of, and whose it is.
+//! The names in trace lines, and the document and handler of what they name.
 
 ghost use Rattle.std.specs.Prelude.{◌≡◌, option_map};
 ghost use Rattle.page_state.specs.Labels.{label_text, label_document, label_handler, IsLabelIn, IsCallerIn};
@@ -10,10 +10,10 @@ use intersection_observer::WatcherId;
 use resize_observer::ObserverId;
 use text_io::Name;
 
-/// What has a name in a page.
+/// A named object of a page.
 #[derive(Clone, Copy, Debug, PartialEq, Eq)]
 pub enum Label {
-    /// What events are fired at: an element, a document or its window, or a media query list.
+    /// An event target: an element, a document or its window, or a media query list.
     Target(EventTarget),
     /// A resize observer.
     Observer(ObserverId),
@@ -22,7 +22,7 @@ pub enum Label {
 }
 
 impl Page {
-    /// The name that a thing of this page was given; a window has its document's.
+    /// Returns the name of a thing of this page; that of a window is its document's.
     pub fn label(&self, of: Label) -> Name
         requires { IsLabelIn self.now.world of }
         ensures { result ≡ label_text self.now.world of }
@@ -38,8 +38,8 @@ impl Page {
         }
     }
 
-    /// The document that decides whether the callbacks of a thing are called, and an observer's handler if it has one; what
-    /// events are fired at has none of its own. `top` for a query list that isn't there.
+    /// Returns the document that decides whether the callbacks of a thing are called, and an observer's handler if it has
+    /// one; event targets have no handler of their own. `top` for a query list that doesn't exist.
     pub fn callback_of(&self, of: Label) -> (DocumentId, Option<HandlerId>)
         requires { IsCallerIn self.now.world of }
         ensures document { result.0.0 ≡ label_document self.now.world of }

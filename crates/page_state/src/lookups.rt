@@ -1,4 +1,4 @@
-//! Operands looked up on a page: what is found is there.
+//! Operands looked up on a page; what is found exists.
 
 ghost use Rattle.std.specs.Prelude.{◌<◌, length, option_map, IfOk};
 ghost use Rattle.element_tree.specs.Documents.{document_number};
@@ -68,7 +68,7 @@ impl Page {
         self.names.watcher(name)
     }
 
-    // The root of an intersection observer, the implicit one where none is named.
+    // Returns the root of an intersection observer, the implicit one if none is named.
     pub(crate) fn root(
         &self,
         operand: Option<Operand>,

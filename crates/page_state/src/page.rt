@@ -1,4 +1,4 @@
-//! A page, and how a command is begun and applied.
+//! A page, with commands begun and applied.
 
 ghost use Rattle.std.specs.Prelude.{◌≡◌, ◌<◌, ◌≤◌, ◌+◌, ℕ, [], true, false, length, unsigned_abs, IfOk, OnOk, OnErr};
 ghost use Rattle.text_io.specs.Limits.{limit_number};
@@ -52,7 +52,7 @@ use text_io::{LimitKind, Name, ThrowKind, Version};
 use thresholds::Margins;
 use trace_text::TraceLine;
 
-/// The screen at first: a viewport of 800 by 600 pixels, each of which is a device pixel.
+/// The initial screen: a viewport of 800 by 600 pixels, with one device pixel per CSS pixel.
 const FIRST_SCREEN: Screen = Screen {
     size: Size {
         width: 51200,
@@ -64,21 +64,22 @@ const FIRST_SCREEN: Screen = Screen {
 /// A page with the document `top`. A contract sees it as a world of the definitions, and as whether a command was begun
 /// and not applied yet (`specs/Views.antt`).
 ///
-/// A page as it opens is ready for a tick of `frame_update` (`IsReadyFor` of `page_laws`), for any number of handlers, and each of its calls
-/// leaves one ready that was (clause `ready`): `apply`, for the handlers of its script, and `notify_list`, as it says.
+/// A new page is ready for a tick of `frame_update` (`IsReadyFor` of `page_laws`), for any number of handlers, and each call
+/// keeps it ready (clause `ready`): `apply` for the handlers of its script, and `notify_list` under the condition stated
+/// there.
 ///
-/// An observation in this page, a target and a name are those of something that the page made. Boxes are kept from one
-/// reading to the next (`page_layout`): a reading first computes those that are due.
+/// Every number in a page refers to something that the page created. Boxes are cached from one reading to the next
+/// (`page_layout`): a reading first recomputes those that are due.
 #[derive(Drop)]
 pub struct Page {
     pub(crate) names: Names,
-    // The elements and documents with their boxes.
+    // The elements and documents with their cached boxes.
     pub(crate) laid: LaidTree,
     pub(crate) observers: Observers,
     pub(crate) watchers: Watchers,
-    // The scroll margins of each, in order of making.
+    // The scroll margins of each observer, in creation order.
     pub(crate) scroll_margins: Vec<Margins>,
-    // What was found of their registrations last, and what was seen for it.
+    // The cached findings of their registrations.
     pub(crate) findings: KeptFindings,
     // Whether a notify task of a document is queued.
     pub(crate) notifying: ByDocument<bool>,
@@ -89,9 +90,9 @@ pub struct Page {
     pub(crate) timers: Timers,
     pub(crate) tasks: Tasks,
     pub(crate) screen: Screen,
-    // The size of a document's viewport at its last resize steps.
+    // The size of each document's viewport at its last resize steps.
     pub(crate) noted: ByDocument<Option<Size>>,
-    // The version of the script that the page is for, which decides on its limits.
+    // The version of the script that the page is for, which determines its limits.
     pub(crate) version: Version,
     pub(crate) clock: u64,
     pub(crate) count: u32,
@@ -118,14 +119,14 @@ impl Model for Page {
 }
 
 impl Page {
-    /// A page for a script of a version, with the document `top` alone, which has no element, and with a viewport of 800 by 600 pixels at
-    /// a ratio of 100%.
+    /// Creates a page for a script of a version, with only the document `top`, which has no elements, and with a viewport of
+    /// 800 by 600 pixels at a ratio of 100%.
     pub fn new(alloc: Global, version: Version) -> Result<Page, AllocError>
         ensures opened { IfOk result (λ page. page ≡ record { world = opening_world version; begun = false; kept = []; found = page.found }) }
         ensures findings { IfOk result (λ page. IsRoomier no_findings page.found) }
         ensures ready { IfOk result (λ page. (handlers : ℕ) → IsReadyFor handlers page.world) }
     {
-        // What may be refused comes first, where little is made that would have to be dropped.
+        // What can fail comes first, while there is little that would have to be dropped.
         let laid = LaidTree::new(alloc, version)?;
         let (names, findings, notifying, noted) = first::parts(alloc)?;
         let (listeners, frame_callbacks, timers, tasks) = first::tables(alloc, version);
@@ -155,7 +156,8 @@ impl Page {
     /// Counts a command, which may then be applied.
     ///
     /// # Errors
-    /// `Limit(Commands)` exactly where as many were begun as the page's version allows. Nothing is changed then. No memory.
+    /// `Limit(Commands)` exactly when the maximum of the page's version was begun. Nothing is changed then. Doesn't
+    /// allocate.
     #[tactic(auto, unfolding(page_model::specs::Commands::begun_in))]
     pub fn begin_command(&mut self) -> Result<(), PageFault>
         ensures counted { Moved result self.old.world self.new.world (begun_in self.old.world) }
@@ -176,7 +178,7 @@ impl Page {
     /// Sets the clock, in milliseconds, to a time of at most 1,000,000,000,000.
     ///
     /// # Errors
-    /// `Throw(RangeError)` exactly where the time is less than the clock's. Nothing is changed then. No memory.
+    /// `Throw(RangeError)` exactly when the time is before the clock's. Nothing is changed then. Doesn't allocate.
     pub fn set_time(&mut self, time: u64) -> Result<(), PageFault>
         requires { IsTime time }
         ensures set { Moved result self.old.world self.new.world (time_set time self.old.world) }
@@ -193,11 +195,12 @@ impl Page {
         Ok(())
     }
 
-    /// Applies a command that was begun: what it does is in the definition of commands, for the target of the present
-    /// entry if there is one.
+    /// Applies a command that was begun, as the definition of commands says, for the target of the present entry if there is
+    /// one.
     ///
     /// # Errors
-    /// `Throw` and `Limit` exactly where the definition says so, and `Memory`. The world is then as it was.
+    /// `Throw` and `Limit` exactly when the definition says so; `Memory` only if it says neither. The world is
+    /// unchanged then.
     pub fn apply<L: Ledger>(
         &mut self,
         script: &Script,
@@ -220,7 +223,7 @@ impl Page {
         self.act(script, action, subject, steps)
     }
 
-    // Applies a command that was counted, so that each table may give one serial number more.
+    // Applies a command that was counted, so that each table can give out one more serial number.
     #[tactic(auto, using(crate::proofs::Doing::kept_at))]
     fn act<L: Ledger>(
         &mut self,
@@ -318,14 +321,15 @@ impl Page {
         }
     }
 
-    /// The version of the script that the page is for. No memory.
+    /// Returns the version of the script that the page is for. Doesn't allocate.
     pub fn version(&self) -> Version
         ensures { result ≡ self.now.world.version }
     {
         self.version
     }
 
-    /// How many device pixels a CSS pixel of the screen is, in hundredths of a percent (CSSOM View, 4: `devicePixelRatio`). No memory.
+    /// Returns the number of device pixels per CSS pixel of the screen, in hundredths of a percent (CSSOM View, 4:
+    /// `devicePixelRatio`). Doesn't allocate.
     pub fn ratio(&self) -> Percent
         ensures value { unsigned_abs result.0 ≡ self.now.world.viewports.screen.ratio }
         ensures range { IsHundredths result.0 }
@@ -333,8 +337,8 @@ impl Page {
         self.screen.ratio
     }
 
-    /// Computes the boxes that are due: each box of the page is then held as it is now, and none is due. It takes at most one step
-    /// for each box that was due. The world and what was begun are as before. No memory.
+    /// Recomputes the boxes that are due: each box of the page is then up to date, and none is due. It takes at most one step
+    /// for each box that was due. The world, and whether a command was begun, are unchanged. Doesn't allocate.
     pub fn refresh_boxes<L: Ledger>(&mut self, steps: &mut Steps<L>)
         ensures same { self.new ≡ record self.old { kept = self.new.kept } }
         ensures done { (n : ℕ) → is_due self.new.world.tree self.new.world.viewports.screen self.new.kept n ≡ false }
@@ -344,8 +348,8 @@ impl Page {
         self.laid.refresh(self.screen, steps);
     }
 
-    /// What is kept of the boxes. What is held for an element that has a box and isn't due is that box as it is now, and a mark on a
-    /// displayed child of a block, in flow or not, stands on the block too.
+    /// Returns the cached boxes. The stored box of an element that has a box and isn't due is its current box, and if a
+    /// displayed child of a block, in flow or not, is marked, so is the block.
     pub fn boxes(&self) -> &kept_layout::Kept
         ensures value { result.now ≡ self.now.kept }
         ensures kept { AreKept self.now.world.tree self.now.kept }
@@ -354,9 +358,9 @@ impl Page {
         self.laid.boxes()
     }
 
-    /// What is kept of registrations: of exactly those that stand. Of one that isn't stale it is what is found of it now, in the coordinates of
-    /// `top` (`telling_of` tells it as an entry does). Its clips are exact of what was seen last of the spots, as its observer sees them through
-    /// its scroll margins (`AreHeld` of `kept_findings`).
+    /// Returns the cached findings, of exactly the existing registrations. That of a registration that isn't stale is its
+    /// current finding, in the coordinates of `top` (`telling_of` maps it to those of an entry). The clips are exact for the
+    /// last known states of the spots, as each observer sees them through its scroll margins (`AreHeld` of `kept_findings`).
     pub fn findings(&self) -> &KeptFindings
         ensures value { result.now ≡ self.now.found }
         ensures registered { AreRegistered self.now.world.intersection_observers self.now.world.scroll_margins self.now.found }
@@ -364,15 +368,15 @@ impl Page {
         ensures exact { (chained : HaveChains (shown_of self.now.world)) (serial : ℕ) → is_stale_in (shown_of self.now.world) self.now.world.scroll_margins chained self.now.world.intersection_observers self.now.found.kept serial ≡ false →
             IsFound (shown_of self.now.world) self.now.world.scroll_margins self.now.world.intersection_observers self.now.found serial }
     {
-        // These tell what is so of the elements and documents of every page.
+        // These yield what holds for the elements and documents of every page.
         let page = self.laid.page();
         page.holds(NodeId(0));
         page.document_count();
         &self.findings
     }
 
-    /// What is shown of the page as it is now: boxes, places, containers and clips (Intersection Observer, 3.2.7), in units of 1/64
-    /// pixel. No box may be due; `refresh_boxes` sees to that. No memory.
+    /// Returns the current geometry of the page: boxes, places, containers and clips (Intersection Observer, 3.2.7), in units
+    /// of 1/64 pixel. Requires that no box is due, as after `refresh_boxes`. Doesn't allocate.
     pub fn geometry(&self) -> Shown<'_>
         requires { (n : ℕ) → is_due self.now.world.tree self.now.world.viewports.screen self.now.kept n ≡ false }
         ensures { result ≡ shown_of self.now.world }
@@ -411,7 +415,7 @@ impl Page {
     }
 }
 
-// As many of a kind as a page for a script of this version may have.
+// Returns the limit of this kind for a page for a script of this version.
 #[tactic(auto, using(crate::proofs::Limits::fits))]
 pub(crate) fn most(kind: LimitKind, version: Version) -> u32
     ensures { result ≡ limit_number version kind }
@@ -419,7 +423,7 @@ pub(crate) fn most(kind: LimitKind, version: Version) -> u32
     kind.number(version) as u32
 }
 
-// The size of the viewport of a document as it is now.
+// Returns the current size of a document's viewport.
 pub(crate) fn viewport_now<L: Ledger>(
     laid: &mut LaidTree,
     screen: Screen,
@@ -438,7 +442,7 @@ pub(crate) fn viewport_now<L: Ledger>(
     viewport_of(laid.page(), laid.boxes(), screen, document)
 }
 
-// What is shown of a page of whose boxes none is due.
+// Returns the geometry of a page without due boxes.
 pub(crate) fn shown_now<'a>(laid: &'a LaidTree, scrolls: &'a Scrolls, screen: Screen) -> Shown<'a>
     requires screen { IsScreen screen }
     requires done { (n : ℕ) → is_due laid.now.elements.tree (seen_screen screen) laid.now.kept n ≡ false }
@@ -447,7 +451,7 @@ pub(crate) fn shown_now<'a>(laid: &'a LaidTree, scrolls: &'a Scrolls, screen: Sc
     Shown::new(laid.page(), laid.boxes(), scrolls, screen)
 }
 
-// What is shown of a document whose boxes, and those of the document around it, are held as they are now.
+// Returns the geometry of a document whose boxes, and those of the document that its frame is in, are up to date.
 pub(crate) fn shown_in<'a>(
     laid: &'a LaidTree,
     scrolls: &'a Scrolls,
@@ -462,8 +466,8 @@ pub(crate) fn shown_in<'a>(
     ShownDocument::new(laid.page(), laid.boxes(), scrolls, screen, document)
 }
 
-// What is shown of a page of whose boxes none is due, for an update of intersection observers. Where there are any, many elements may
-// be read, for which it is found once what each document shows, and how far its viewport and its elements are scrolled.
+// Returns the geometry of a page without due boxes, for an update of intersection observers. If there are any observers, many
+// elements may be read, so the views and scroll offsets are precomputed.
 pub(crate) fn shown_at_once<'a>(
     alloc: Global,
     laid: &'a LaidTree,

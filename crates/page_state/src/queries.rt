@@ -23,7 +23,7 @@ use std::sync::ledger::Ledger;
 use step_count::Steps;
 use text_io::{LimitKind, Name};
 
-/// A media query list, with its state at the last evaluation, or at creation.
+/// A media query list, with its state at the last evaluation or at creation.
 #[derive(Drop)]
 pub(crate) struct QueryList {
     pub(crate) document: DocumentId,
@@ -31,18 +31,18 @@ pub(crate) struct QueryList {
     pub(crate) matched: bool,
 }
 
-/// A query list that has another state than at its last evaluation.
+/// A query list whose state has changed since its last evaluation.
 #[derive(Clone, Copy, PartialEq, Eq, Debug)]
 pub struct Change {
     pub query: u32,
     /// Whether it matches now.
     pub matches: bool,
-    /// The place from which the next change is looked for.
+    /// The index from which to look for the next change.
     pub place: usize,
 }
 
 impl QueryList {
-    // Whether it is one of a document and has another state in a viewport of this size than at its last evaluation.
+    // Whether it belongs to a document and its state in a viewport of this size differs from that at its last evaluation.
     fn is_changed(&self, document: DocumentId, viewport: Size) -> bool
         ensures { result ≡ is_changed document.0 (seen_size viewport) (seen_query_list self.now) }
     {
@@ -50,7 +50,7 @@ impl QueryList {
     }
 }
 
-// The number of the first such query list from a place on.
+// Returns the number of the first such query list from an index on.
 fn changed_from(
     queries: &[QueryList],
     document: DocumentId,
@@ -105,7 +105,7 @@ impl Page {
         Ok(Effect::Nothing)
     }
 
-    // Whether a query list matches its document's viewport now.
+    // Whether a query list currently matches its document's viewport.
     pub(crate) fn matches_now<L: Ledger>(&mut self, query: u32, steps: &mut Steps<L>) -> bool
         requires { query < length self.old.world.queries }
         ensures value { let list = query_list_at self.old.world.queries query in
@@ -119,9 +119,9 @@ impl Page {
         list.query.matches(viewport)
     }
 
-    /// Evaluates the query lists of a document from a place on, counted over the lists of all documents, up to the first
-    /// whose state is another than at its last evaluation or creation, which then has that state (CSSOM View, 4.2:
-    /// evaluate media queries and report changes). None exactly where there is none. No memory.
+    /// Evaluates the query lists of a document from an index on, counted over the lists of all documents, up to the first
+    /// whose state has changed since its last evaluation or creation; the new state is stored (CSSOM View, 4.2: evaluate
+    /// media queries and report changes). `None` exactly when there is none. Doesn't allocate.
     pub fn next_change<L: Ledger>(
         &mut self,
         document: DocumentId,

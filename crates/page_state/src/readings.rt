@@ -1,4 +1,4 @@
-//! What is read of a page. What is due of the boxes that a reading rests on is computed before it, and no other box.
+//! The command `read`. The boxes that are due and that a reading depends on are recomputed first, and no others.
 
 ghost use Rattle.std.specs.Prelude.{◌≡◌, Some, length};
 ghost use Rattle.script_model.specs.Syntax.{Read};
@@ -42,7 +42,7 @@ impl Page {
         Ok(Effect::Line(self.reading(container, steps)))
     }
 
-    // The line of what is read of an element or a document.
+    // Returns the line of a reading of an element or a document.
     fn reading<L: Ledger>(&mut self, container: Container, steps: &mut Steps<L>) -> TraceLine
         requires { IsIn self.old.world container }
         ensures line { seen_line result

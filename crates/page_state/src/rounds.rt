@@ -1,4 +1,4 @@
-//! What the resize loop asks of a page (Resize Observer, 3.4). Sizes are those of boxes as they are now.
+//! The calls of the resize loop on a page (Resize Observer, 3.4). Sizes are those of the current boxes.
 
 ghost use Rattle.std.specs.Prelude.{◌≡◌, ◌<◌, ℕ, length, option_map, IfOk, IfSome, OnErr};
 ghost use Rattle.page_model.specs.Gathering.{has_skipped, sight_of, without_active};
@@ -20,8 +20,8 @@ use std::sync::ledger::Ledger;
 use step_count::Steps;
 
 impl Page {
-    /// Gathers the active observations of a document at a depth (Resize Observer, 3.4: gather active observations at
-    /// depth), and answers how many there are. No memory.
+    /// Gathers the active observations of a document at a depth (Resize Observer, 3.4: gather active observations at depth),
+    /// and returns how many there are. Doesn't allocate.
     pub fn gather<L: Ledger>(
         &mut self,
         document: DocumentId,
@@ -38,12 +38,12 @@ impl Page {
         depth_gather::gather(&mut self.observers, &sizes, document, depth)
     }
 
-    /// The next delivery of a document (Resize Observer, 3.4: broadcast active observations, up to the callback): of its
-    /// observers from `place` on the first with something active, with an entry for each active observation, of sizes as
-    /// they are now, which become the last reported ones. None exactly where no observer is left that has something active.
+    /// Returns the next delivery of a document (Resize Observer, 3.4: broadcast active observations, up to the callback): the
+    /// first of its observers from `place` on that has active observations, with an entry for each of them of the current
+    /// sizes, which become the last reported ones. `None` exactly when no observer with active observations is left.
     ///
     /// # Errors
-    /// Want of memory; the world is then as it was.
+    /// If an allocation fails; the world is unchanged then.
     pub fn next_delivery<L: Ledger>(
         &mut self,
         document: DocumentId,
@@ -66,7 +66,7 @@ impl Page {
         depth_gather::next_delivery(alloc, &mut self.observers, &sizes, document, place)
     }
 
-    /// The end of an observer's turn, once its callback was called: its active list is emptied. No memory.
+    /// Ends an observer's turn after its callback was called: clears its active list. Doesn't allocate.
     pub fn end_delivery(&mut self, observer: ObserverId)
         requires { observer.0 < length self.old.world.resize_observers.made }
         ensures emptied { self.new ≡ record self.old { world = record (self.old.world) { resize_observers = without_active observer.0 (self.old.world.resize_observers) } } }
@@ -75,7 +75,7 @@ impl Page {
         depth_gather::end_delivery(&mut self.observers, observer);
     }
 
-    /// Whether something was skipped as a document's observations were last gathered. No memory.
+    /// Whether an observation was skipped when a document's observations were last gathered. Doesn't allocate.
     pub fn has_skipped(&self, document: DocumentId) -> bool
         ensures { result ≡ has_skipped document.0 self.now.world.resize_observers }
     {

@@ -30,7 +30,7 @@ use script_syntax::Operand;
 use std::sync::ledger::Ledger;
 use step_count::Steps;
 
-// How far something is scrolled, and how far it can be.
+// The scroll offset and the scroll range of a target.
 #[derive(Clone, Copy)]
 struct Reach {
     offset: Point,
@@ -80,7 +80,7 @@ impl Page {
         self.move_to(target, moved(reach.offset, by), reach.range)
     }
 
-    // What a scroll of an element or a document scrolls: a root element stands for its document's viewport.
+    // Returns what scrolling an element or a document scrolls: for a root element its document's viewport.
     fn scrolled_thing(&self, container: Container) -> Option<Container>
         requires { IsIn self.now.world container }
         ensures { option_map seen_container result ≡ scrolled_thing self.now.world.tree self.now.world.viewports.screen (seen_container container) }
@@ -115,7 +115,7 @@ impl Page {
         }
     }
 
-    // The scroll offset in force of a target and its range, of boxes as they are now.
+    // Returns the scroll offset in force of a target and its range, from the current boxes.
     fn reach<L: Ledger>(&mut self, target: Container, steps: &mut Steps<L>) -> Reach
         ensures offset { result.offset ≡ point_of (scroll_offset self.old.world.tree self.old.world.viewports.screen self.old.world.scrolls (seen_container target)) }
         ensures range { seen_size result.range ≡ scroll_range self.old.world.tree self.old.world.viewports.screen (seen_container target) }
@@ -133,7 +133,7 @@ impl Page {
         }
     }
 
-    // Scrolls to a position, kept within the range of the target.
+    // Scrolls to a position, clamped to the range of the target.
     fn move_to(&mut self, target: Container, to: Point, range: Size) -> Result<Effect, PageFault>
         requires value { seen_size range ≡ scroll_range self.old.world.tree self.old.world.viewports.screen (seen_container target) }
         requires bound { IsRange range }
@@ -147,7 +147,7 @@ impl Page {
     }
 }
 
-// A point moved by a distance.
+// Moves a point by a distance.
 fn moved(from: Point, by: Point) -> Point
     requires from { IsInForce from }
     requires by { IsOffset by }

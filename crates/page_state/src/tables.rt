@@ -148,7 +148,7 @@ impl Page {
     }
 }
 
-// What a table's refusal comes to on the page: a key that is taken throws.
+// Maps the error of a table: a key in use throws.
 fn refused(fault: TableFault, limit: LimitKind) -> PageFault
     ensures { result ≡ untabled limit fault }
 {

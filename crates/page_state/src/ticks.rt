@@ -1,4 +1,4 @@
-//! What a tick asks of a page besides the resize loop and the event tables (HTML, update the rendering).
+//! The calls of a tick on a page, besides those of the resize loop and on the event tables (HTML, update the rendering).
 
 ghost use Rattle.std.specs.Prelude.{◌≡◌, ◌<◌, ℕ, All, length, IfOk, OnOk, OnErr};
 ghost use Rattle.element_tree.specs.Documents.{document_numbers};
@@ -30,22 +30,23 @@ use std::sync::ledger::Ledger;
 use step_count::Steps;
 
 impl Page {
-    /// Whether a document is Active (HTML, 7.3). Not where there is no such document.
+    /// Whether a document is Active (HTML, 7.3). False if there is no such document.
     pub fn is_active(&self, document: DocumentId) -> bool
         ensures { result ≡ is_active self.now.world.tree document.0 }
     {
         self.laid.page().is_active(document)
     }
 
-    /// The Active documents, by preorder of the frame tree. The error is want of memory.
+    /// Returns the Active documents, in preorder of the frame tree. Fails only if an allocation fails.
     pub fn active_documents(&self) -> Result<Vec<DocumentId>, AllocError>
         ensures { IfOk result (λ documents. document_numbers documents.items ≡ active_documents self.now.world.tree) }
     {
         self.laid.page().active_documents()
     }
 
-    /// Whether the size of a document's viewport isn't the one noted at the last call for this document; the size is then
-    /// noted (CSSOM View, 13: run the resize steps). The first call only notes it. No memory.
+    /// Whether the size of a document's viewport differs from the one recorded by the last call for this document; the new
+    /// size is recorded (CSSOM View, 13: run the resize steps). The first call only records it and returns false. Doesn't
+    /// allocate.
     pub fn viewport_changed<L: Ledger>(
         &mut self,
         document: DocumentId,
@@ -72,13 +73,14 @@ impl Page {
         }
     }
 
-    /// Updates the intersection observations of a document (Intersection Observer, 3.2.10): what is found of each target of
-    /// the observers whose root is the document or stands in it, through the scroll margins of each, is stored, entries are queued where something differs, and a
-    /// notify task where an entry was. Only what is stale of it is computed.
+    /// Updates the intersection observations of a document (Intersection Observer, 3.2.10): stores the current finding of
+    /// each target of the observers whose root is the document or is in it (for `top` also those with the implicit root),
+    /// through the scroll margins of each, queues an entry for each change, and a notify task if an entry was queued. Only
+    /// stale findings are recomputed.
     ///
     /// # Errors
-    /// Want of memory. The registrations that come before the refused one are settled then, and all others and every queue but theirs
-    /// are as they were; where only the notify task is refused, all are settled.
+    /// If an allocation fails. The registrations before the failed one are settled then, and all others, and all
+    /// queues that these don't add to, are unchanged; if only queueing the notify task fails, all are settled.
     pub fn update_intersections<L: Ledger>(
         &mut self,
         document: DocumentId,
@@ -127,12 +129,13 @@ impl Page {
         Ok(())
     }
 
-    /// The observers that a notify task of a document goes over, in order of making: those whose root is the document or
-    /// stands in it now (Intersection Observer, 3.2.4: notify intersection observers). Its flag is cleared: so a page that was ready for a
-    /// tick stays so where a notify task of the document was taken off just before (`pop_task`), and needn't where one still waits.
+    /// Returns the observers that a notify task of a document notifies, in creation order: those whose root is now the
+    /// document or is in it, for `top` also those with the implicit root (Intersection Observer, 3.2.4: notify intersection
+    /// observers). Clears the document's flag: so a page that was ready for a tick stays so if a notify task of the document
+    /// was popped just before (`pop_task`), but needn't if one is still queued.
     ///
     /// # Errors
-    /// Want of memory; nothing is changed then.
+    /// If an allocation fails; nothing is changed then.
     pub fn notify_list(&mut self, document: DocumentId) -> Result<Vec<WatcherId>, AllocError>
         ensures list { IfOk result (λ list. watcher_numbers list.items ≡ watchers self.old.world.tree document.0 self.old.world.intersection_observers) }
         ensures made { IfOk result (λ list. All (λ watcher. watcher.0 < length self.old.world.intersection_observers.made) list.items) }
@@ -146,8 +149,8 @@ impl Page {
         Ok(list)
     }
 
-    /// Hands the queue of an intersection observer out, and leaves it empty. The entries are of elements that there are, and
-    /// their lines can be written. No memory.
+    /// Takes the queue of an intersection observer, leaving it empty. The entries are of existing elements, and their lines
+    /// can be written. Doesn't allocate.
     pub fn take_records(&mut self, watcher: WatcherId) -> EntryList
         requires { watcher.0 < length self.old.world.intersection_observers.made }
         ensures value { result ≡ (intersection_observer_at self.old.world.intersection_observers watcher.0).queue }

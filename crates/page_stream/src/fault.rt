@@ -1,20 +1,20 @@
-//! Why a source is no stream.
+//! Errors of splitting a stream.
 
 use thiserror::Error;
 
-/// Why a source is no stream.
+/// Why a source isn't a stream.
 #[derive(Clone, Copy, Debug, PartialEq, Eq, Error)]
 pub enum StreamFault {
     /// The first line isn't a page line, or there is none.
-    #[error("the first line names no page")]
+    #[error("the first line is not a page line")]
     NoPage,
-    /// There is a page too many.
-    #[error("line {line}: a page too many")]
+    /// There are too many pages.
+    #[error("line {line}: too many pages")]
     TooManyPages {
-        /// The line, from 1, that names it first.
+        /// The line, from 1, that first names a page beyond the limit.
         line: u32,
     },
-    /// No memory was left.
+    /// Out of memory.
     #[error("out of memory")]
     Memory,
 }

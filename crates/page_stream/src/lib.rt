@@ -1,4 +1,4 @@
-//! Streams of pages: the scripts of several pages in one source, each line behind a line that names its page.
+//! Streams of pages: the scripts of several pages in one source, with lines that switch from page to page.
 #![tactic(auto)]
 
 mod fault;

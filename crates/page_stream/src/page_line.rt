@@ -5,7 +5,7 @@ ghost use Rattle.page_stream.specs.PageLines.{content_of, name_in, page_named};
 
 use text_io::Name;
 
-// A line without its line feed, and without a carriage return directly before that.
+// Returns a line without its line feed and a carriage return directly before that.
 fn content_of(line: &[u8]) -> &[u8]
     ensures { result.now ≡ content_of line.now }
 {
@@ -18,7 +18,7 @@ fn content_of(line: &[u8]) -> &[u8]
     }
 }
 
-// The name behind `page` and one space.
+// Returns the name after `page` and one space.
 fn name_in(content: &[u8]) -> Option<Name>
     ensures { result ≡ name_in content.now }
 {
@@ -28,7 +28,7 @@ fn name_in(content: &[u8]) -> Option<Name>
     }
 }
 
-/// The page that a line names, where it is a page line. No memory.
+/// Returns the page that a line names, if it is a page line. Allocates nothing.
 #[tactic(auto, unfolding(crate::specs::PageLines::page_named))]
 pub fn page_named(line: &[u8]) -> Option<Name>
     ensures { result ≡ page_named line.now }

@@ -13,7 +13,7 @@ use crate::stream::Part;
 use std::alloc::{AllocError, Global};
 use text_io::Name;
 
-/// What was read of a stream: its pages, how many lines each has so far, which one is current, and their lines.
+/// What was read of a stream so far: its pages, how many lines each has, which one is current, and the lines.
 #[derive(Drop)]
 pub struct Splitting {
     pub pages: Vec<Name>,
@@ -22,7 +22,7 @@ pub struct Splitting {
     pub parts: Vec<Part>,
 }
 
-// The place of a page, or how many there are where it is none of them.
+// Returns the index of a page, or the number of pages if it isn't one of them.
 fn place_of(pages: &[Name], name: &Name) -> usize
     ensures place { result ≡ position_or_len (bytes_eq name.now) pages.now }
     ensures within { result ≤ length pages.now }
@@ -34,6 +34,7 @@ fn place_of(pages: &[Name], name: &Name) -> usize
 }
 
 impl Splitting {
+    /// Creates the state before the first line; allocates nothing.
     pub fn new(alloc: Global) -> Splitting
         ensures split { IsSplit result [] [] }
         ensures pages { result.pages.items ≡ [] }
@@ -46,7 +47,7 @@ impl Splitting {
         }
     }
 
-    /// A page line, of this number. Its page is the current one from now on.
+    /// Takes the page line `line`: makes its page the current one, and adds the page if it is new.
     pub fn turn_to(&mut self, name: Name, line: u32, most_pages: usize) -> Result<(), StreamFault>
         requires as_many { length self.old.lines.items ≡ length self.old.pages.items }
         ensures split { OnOk result ((owned : List OwnedLine) (page : List ℕ) → IsSplit self.old owned page → IsSplit self.new owned name) }
@@ -70,7 +71,7 @@ impl Splitting {
         Ok(())
     }
 
-    /// A line of the current page, from one place in the source to another.
+    /// Adds a line to the current page, given by its range of the source.
     pub fn add(&mut self, from: usize, to: usize) -> Result<(), AllocError>
         requires as_many { length self.old.lines.items ≡ length self.old.pages.items }
         requires inside { self.old.current < length self.old.pages.items }
@@ -94,7 +95,7 @@ impl Splitting {
         }
     }
 
-    /// A line, of this number, that begins here.
+    /// Takes the line `number`, which begins at offset `from` of the source.
     pub fn take_line(
         &mut self,
         line: &[u8],

@@ -1,4 +1,4 @@
-//! A stream: its pages, and to which of them each of its lines belongs.
+//! A stream: its pages, and the page that each of its lines belongs to.
 
 ghost use Rattle.std.specs.Prelude.{◌≡◌, ◌≢◌, ◌↔◌, ◌<◌, ◌≤◌, ◌-◌, ◌^◌, ℕ, true, false, length, slice_range, IfOk, IfErr, None, Some, Err};
 ghost use Rattle.page_stream.specs.Pages.{is_stream, page_line_past, pages_of};
@@ -15,17 +15,17 @@ use trace_summary::split_line;
 /// A line of a stream that isn't a page line.
 #[derive(Clone, Copy, Debug, PartialEq, Eq)]
 pub struct Part {
-    /// Its number, from 1, in the script of its page.
+    /// Its line number, from 1, in the script of its page.
     pub line: u32,
-    /// The page whose line it is, by its place among the stream's pages.
+    /// The index of its page among the stream's pages.
     pub page: usize,
-    /// Where it begins in the source.
+    /// The offset in the source where it begins.
     pub from: usize,
-    /// Where it ends, its line feed included.
+    /// The offset where it ends, after its line feed.
     pub to: usize,
 }
 
-/// The scripts of several pages in one source. A contract sees it as the source.
+/// The scripts of several pages in one source. A contract sees the bytes of the source.
 #[derive(Drop)]
 pub struct Stream<'a> {
     source: &'a [u8],
@@ -45,7 +45,7 @@ impl<'a> Model for Stream<'a> {
     ghost invariant = { λ stream. (stream.pages.items ≡ pages_of stream.source.now) × (stream.parts.items ≡ parts_of stream.source.now) };
 }
 
-// What stands at a part's place.
+// Returns the text of a part.
 fn text_of<'a>(source: &'a [u8], part: &Part) -> &'a [u8]
     requires from { part.now.from ≤ part.now.to }
     requires to { part.now.to ≤ length source.now }
@@ -55,21 +55,21 @@ fn text_of<'a>(source: &'a [u8], part: &Part) -> &'a [u8]
 }
 
 impl<'a> Stream<'a> {
-    /// The pages in the order of their first page line.
+    /// Returns the pages in the order of their first page line.
     pub fn pages(&self) -> &[Name]
         ensures { result.now ≡ pages_of self.now }
     {
         self.pages.as_slice()
     }
 
-    /// The lines that aren't page lines, in their order.
+    /// Returns the lines that aren't page lines, in order.
     pub fn parts(&self) -> &[Part]
         ensures { result.now ≡ parts_of self.now }
     {
         self.parts.as_slice()
     }
 
-    /// The script of the page at this place: its lines one after another. The error is want of memory.
+    /// Returns the script of the page at this index: the concatenation of its lines. Fails only if an allocation fails.
     pub fn script(&self, alloc: Global, page: usize) -> Result<Vec<u8>, AllocError>
         requires { page < length (pages_of self.now) }
         ensures { IfOk result (λ script. script.items ≡ script_of page self.now) }
@@ -86,9 +86,10 @@ impl<'a> Stream<'a> {
 
 /// Splits a stream into the lines of its pages.
 ///
+/// # Errors
 /// - `NoPage` exactly where the first line isn't a page line, or there is none.
-/// - `TooManyPages` where more than `most_pages` pages are named, with the first line that names one too many.
-/// - `Memory` for want of memory.
+/// - `TooManyPages` if more than `most_pages` pages are named, with the first line that names one beyond that.
+/// - `Memory` if an allocation fails.
 pub fn split(alloc: Global, source: &[u8], most_pages: usize) -> Result<Stream<'_>, StreamFault>
     requires { length source.now < 2 ^ 32 - 1 }
     ensures stream { IfOk result (λ stream. (stream ≡ source.now) × (is_stream source.now ≡ true) × (page_line_past most_pages source.now ≡ None)) }

@@ -16,7 +16,7 @@ use page_boxes::{
 use page_geometry::{Reading, Shown, ShownDocument};
 use page_tree::PageTree;
 use px_units::{BoxKind, Percent, Point, Rect, Size};
-use scrolling::Scrolls;
+use scrolling::{Outcome, Scrolls};
 use std::alloc::Global;
 use std::marker::Brand;
 use std::process::Abort;
@@ -291,8 +291,8 @@ const NESTED_STYLES: [(u32, &str, &str); 24] = [
 /// What is done to the page, or what a reading of it gives, in 1/64 pixel.
 #[derive(Clone, Copy)]
 enum Look {
-    /// Element 5 and document 1 are scrolled downwards to these positions, as far as they can be.
-    Scroll(u16, u16),
+    /// One is scrolled downwards to a position, as far as it can be, and whether it was elsewhere.
+    Scroll(Container, u16, Outcome),
     Narrow,
     Set(u32, &'static str, &'static str),
     Append(u32, u32),
@@ -302,7 +302,7 @@ enum Look {
     Viewport(u32, (i64, i64), i64),
 }
 
-const LOOKS: [Look; 61] = [
+const LOOKS: [Look; 63] = [
     Look::Read(0, (0, 0, 40960, 14208), 0),
     Look::Read(1, (1024, 384, 33817, 13824), 0),
     Look::Read(2, (256, 256, 31897, 13056), 0),
@@ -314,7 +314,8 @@ const LOOKS: [Look; 61] = [
     Look::Viewport(0, (40960, 30720), 0),
     Look::Viewport(1, (32153, 12800), 0),
     Look::Viewport(2, (15820, 9600), 0),
-    Look::Scroll(1000, 700),
+    Look::Scroll(INNER, 1000, Outcome::Moved),
+    Look::Scroll(OUTER, 700, Outcome::Moved),
     Look::Read(0, (0, 0, 40960, 14208), 0),
     Look::Read(1, (1024, 384, 33817, 13824), 0),
     Look::Read(2, (256, -444, 31897, 12356), 0),
@@ -326,7 +327,8 @@ const LOOKS: [Look; 61] = [
     Look::Viewport(0, (40960, 30720), 0),
     Look::Viewport(1, (32153, 12800), 700),
     Look::Viewport(2, (15820, 9600), 0),
-    Look::Scroll(0, 0),
+    Look::Scroll(INNER, 0, Outcome::Moved),
+    Look::Scroll(OUTER, 0, Outcome::Moved),
     Look::Narrow,
     Look::Read(0, (0, 0, 20480, 14208), 0),
     Look::Read(1, (1024, 384, 17433, 13824), 0),
@@ -367,8 +369,9 @@ const LOOKS: [Look; 61] = [
 ];
 
 /// What is scrolled beyond its range, and what becomes of it as the ranges change.
-const SCROLLED: [Look; 40] = [
-    Look::Scroll(64000, 64000),
+const SCROLLED: [Look; 42] = [
+    Look::Scroll(INNER, 64000, Outcome::Moved),
+    Look::Scroll(OUTER, 64000, Outcome::Moved),
     Look::Read(2, (256, -1372, 31897, 11428), 0),
     Look::Read(3, (736, 3072, 16684, 12800), 0),
     Look::Read(5, (1582, 576, 9492, 2496), 3840),
@@ -404,7 +407,8 @@ const SCROLLED: [Look; 40] = [
     Look::Read(5, (0, 0, 0, 0), 0),
     Look::Viewport(1, (0, 0), 0),
     Look::Set(1, "display", "block"),
-    Look::Scroll(256, 0),
+    Look::Scroll(INNER, 256, Outcome::Moved),
+    Look::Scroll(OUTER, 0, Outcome::Same),
     Look::Read(5, (1582, 576, 9492, 2496), 256),
     Look::Read(7, (1710, 320, 4822, 6080), 0),
     Look::Viewport(1, (32153, 15360), 0),
@@ -640,14 +644,13 @@ fn read_viewport(
 
 // Scrolls downwards to a position, as far as it goes.
 fn scroll_over(
-    rt: &impl Abort,
     page: &PageTree,
     boxes: &Kept,
     scrolls: &mut Scrolls,
     screen: Screen,
     target: Container,
     down: u16,
-) -> Result<(), Fail>
+) -> Result<Outcome, Fail>
     requires screen { IsScreen screen }
     requires fresh { IsFresh page.now.tree (seen_screen screen) boxes.now }
 {
@@ -656,10 +659,7 @@ fn scroll_over(
         left: 0,
         top: i64::from(down),
     };
-    let _outcome = scrolls.scroll_to(DocumentId(0), target, wanted, range)?;
-    let offset = Shown::new(page, boxes, scrolls, screen).offset_of(target);
-    assert_eq!(rt; offset.top, i64::from(down).min(range.height));
-    Ok(())
+    Ok(scrolls.scroll_to(DocumentId(0), target, wanted, range)?)
 }
 
 fn scroll(
@@ -670,10 +670,10 @@ fn scroll(
     is_narrow: bool,
     target: Container,
     down: u16,
-) -> Result<(), Fail> {
+) -> Result<Outcome, Fail> {
     let screen = screen_of(is_narrow);
     let boxes = all_boxes(rt, alloc, page, screen)?;
-    scroll_over(rt, page, &boxes, scrolls, screen, target, down)
+    scroll_over(page, &boxes, scrolls, screen, target, down)
 }
 
 fn take_look(
@@ -685,9 +685,9 @@ fn take_look(
     look: Look,
 ) -> Result<(), Fail> {
     match look {
-        Look::Scroll(inner, outer) => {
-            scroll(rt, alloc, page, scrolls, *is_narrow, INNER, inner)?;
-            scroll(rt, alloc, page, scrolls, *is_narrow, OUTER, outer)?;
+        Look::Scroll(target, down, wanted) => {
+            let outcome = scroll(rt, alloc, page, scrolls, *is_narrow, target, down)?;
+            assert_eq!(rt; outcome, wanted, "{down}");
         }
         Look::Narrow => *is_narrow = true,
         Look::Set(node, property, value) => set(rt, page, node, property, value),
@@ -737,6 +737,9 @@ fn what_is_scrolled_is_read_as_it_is(rt: HostRuntime) -> Result<(), Fail> {
     follow(&rt, rt.alloc(), &SCROLLED)
 }
 
+/// How far down the nested viewport is where `FRAMES` are seen, in 1/64 pixel: not as far as it can be.
+const DOWN: u16 = 688;
+
 /// The left, top, right and bottom edges of a frame's padding box, and the corner of its content.
 type Frame = (u32, (i64, i64, i64, i64), (i64, i64));
 
@@ -781,7 +784,8 @@ fn see_frames(
     scrolls: &mut Scrolls,
 ) -> Result<(), Fail> {
     assert!(rt; is_scroller(page, NodeId(5)));
-    scroll(rt, alloc, page, scrolls, false, OUTER, 688)?;
+    let outcome = scroll(rt, alloc, page, scrolls, false, OUTER, DOWN)?;
+    assert_eq!(rt; outcome, Outcome::Moved);
     let screen = screen_of(false);
     let boxes = all_boxes(rt, alloc, page, screen)?;
     see_frames_over(rt, page, &boxes, scrolls, screen);

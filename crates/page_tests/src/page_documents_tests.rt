@@ -34,7 +34,7 @@ const FRESH: [Life; 4] = [
 
 #[test]
 fn documents_stay_fresh_where_their_frame_leaves_another_one(rt: HostRuntime) -> Result<(), Fail> {
-    let _page = moved(&rt, rt.alloc(), &FRESH)?;
+    moved(&rt, rt.alloc(), &FRESH)?;
     Ok(())
 }
 
@@ -46,7 +46,7 @@ const ORDERED: [Life; 3] = [
 
 #[test]
 fn active_documents_come_in_the_order_of_the_tree(rt: HostRuntime) -> Result<(), Fail> {
-    let _page = moved(&rt, rt.alloc(), &ORDERED)?;
+    moved(&rt, rt.alloc(), &ORDERED)?;
     Ok(())
 }
 

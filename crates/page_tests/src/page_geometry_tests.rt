@@ -21,7 +21,7 @@ use page_boxes::Screen;
 use page_geometry::Shown;
 use page_tree::PageTree;
 use px_units::{Point, Rect};
-use scrolling::Scrolls;
+use scrolling::{Outcome, Scrolls};
 use std::alloc::Global;
 use std::marker::Brand;
 use std::process::Abort;
@@ -79,6 +79,11 @@ const STYLES: [Style; 25] = [
     (8, "display", "none"),
 ];
 
+/// No page here has more elements, and none more observers, of which each observes all elements.
+const ELEMENTS: u32 = 9;
+
+const MOST_WATCHERS: u32 = 6;
+
 const WATCHED: [Watched; 6] = [
     (Root::Implicit, ""),
     (Root::Document(DocumentId(1)), "10px 0px"),
@@ -96,7 +101,7 @@ type Edges = (i64, i64, i64, i64);
 /// What is done to the page, or what is found, in 1/64 pixel.
 #[derive(Clone, Copy)]
 enum Step {
-    /// An element is scrolled downwards, as far as it can be.
+    /// An element is scrolled downwards from where it was to a position, as far as it can be.
     Scroll(u32, i64),
     /// The viewport of a document is.
     ScrollView(u32, i64),
@@ -411,7 +416,7 @@ fn observe(
 
 // Lets an observer observe all elements in order.
 fn observe_all(rt: &impl Abort, watchers: &mut Watchers, watcher: u32) -> Result<(), Fail> {
-    for target in 0..9 {
+    for target in 0..ELEMENTS {
         observe(rt, watchers, watcher, target)?;
     }
     Ok(())
@@ -432,12 +437,13 @@ fn watch_all(
 }
 
 fn watchers_of(rt: &impl Abort, alloc: Global, watched: &[Watched]) -> Result<Watchers, Fail> {
-    let mut watchers = Watchers::new(alloc, 6, 54);
+    let mut watchers = Watchers::new(alloc, MOST_WATCHERS, MOST_WATCHERS * ELEMENTS);
     watch_all(rt, alloc, &mut watchers, watched)?;
     Ok(watchers)
 }
 
 fn scroll_over(
+    rt: &impl Abort,
     page: &PageTree,
     boxes: &Kept,
     scrolls: &mut Scrolls,
@@ -449,7 +455,8 @@ fn scroll_over(
     requires fresh { IsFresh page.now.tree (seen_screen screen) boxes.now }
 {
     let range = Shown::new(page, boxes, scrolls, screen).range_of(target);
-    let _outcome = scrolls.scroll_to(DocumentId(0), target, Point { left: 0, top: down }, range)?;
+    let outcome = scrolls.scroll_to(DocumentId(0), target, Point { left: 0, top: down }, range)?;
+    assert_eq!(rt; outcome, Outcome::Moved, "{down}");
     Ok(())
 }
 
@@ -462,15 +469,16 @@ fn scroll(
     down: i64,
 ) -> Result<(), Fail> {
     let boxes = all_boxes(rt, alloc, page, SCREEN)?;
-    scroll_over(page, &boxes, scrolls, SCREEN, target, down)
+    scroll_over(rt, page, &boxes, scrolls, SCREEN, target, down)
 }
 
 fn edges_of(rect: Rect) -> Edges {
     (rect.left, rect.top, rect.right, rect.bottom)
 }
 
-// Makes sure that the chain leads from a target to a root wherever it is to.
-fn see_chain<S: Scene>(rt: &impl Abort, scene: &S, root: Root, target: NodeId)
+// Asks whether the chain leads from a target to a root wherever it is to, which `Index::recompute` takes for granted: what is found then
+// is compared in `compare`.
+fn ask_chain<S: Scene>(rt: &impl Abort, scene: &S, root: Root, target: NodeId)
     ensures { IfChained (S.standings scene.now (seen_root root) target.0) (IsAbove (S.scene scene.now) (spot_of_root (seen_root root)) (element_spot target.0)) }
 {
     match scene.standing(root, target) {
@@ -494,7 +502,7 @@ fn clips_for<S: Scene>(
 {
     let root = watchers.root_of(watchers.watcher_of(registration));
     let target = watchers.target_of(registration);
-    see_chain(rt, scene, root, target);
+    ask_chain(rt, scene, root, target);
     let mut clips = Clips::new(alloc);
     assert!(rt; clips.pair(registration.0).is_none());
     clips.hold(
@@ -551,7 +559,7 @@ fn find_over(
     let registrations = watchers.registrations(WatcherId(watcher));
     assert!(rt; (target as usize) < registrations.len());
     let registration = registrations[target as usize];
-    let finding = find_anew::<Brand>(
+    find_anew::<Brand>(
         Blank::new(1),
         rt,
         alloc,
@@ -559,14 +567,7 @@ fn find_over(
         watchers,
         registration,
         scroll,
-    )?;
-    let is_chained = reaches(
-        shown,
-        Container::Element(NodeId(target)),
-        Container::Document(DocumentId(0)),
-    );
-    assert!(rt; is_chained || !finding.meets);
-    Ok(finding)
+    )
 }
 
 fn found(

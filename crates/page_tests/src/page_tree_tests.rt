@@ -110,24 +110,36 @@ fn edits_give_the_lists_of_children(rt: HostRuntime) -> Result<(), Fail> {
     Ok(())
 }
 
+/// The limits `depth`, `nodes` and `documents` of `docs/SCRIPT.md`.
+const MOST_DEPTH: u32 = 256;
+
+const MOST_NODES: u32 = 20_000;
+
+const MOST_NODES_OF_SECOND: u32 = 40_000;
+
+const MOST_DOCUMENTS: u32 = 64;
+
 fn make_deep(rt: &impl Abort, page: &mut PageTree) {
-    for number in 1..256u32 {
+    for number in 1..MOST_DEPTH {
         assert_eq!(rt; apply(rt, page, Edit::Append(number - 1, number)), "Ok");
     }
-    assert!(rt; page.holds(NodeId(255)));
-    assert_eq!(rt; page.depth(NodeId(255)), 256);
+    let inmost = NodeId(MOST_DEPTH - 1);
+    assert!(rt; page.holds(inmost));
+    assert_eq!(rt; page.depth(inmost), MOST_DEPTH);
 }
 
+// One more, below all of them and above all of them.
 fn see_no_deeper(rt: &impl Abort, page: &mut PageTree) {
-    assert_eq!(rt; apply(rt, page, Edit::Append(255, 256)), "depth");
+    let edit = Edit::Append(MOST_DEPTH - 1, MOST_DEPTH);
+    assert_eq!(rt; apply(rt, page, edit), "depth");
     assert_eq!(rt; apply(rt, page, Edit::Root(0, 0)), "Ok");
-    assert_eq!(rt; apply(rt, page, Edit::Append(256, 0)), "depth");
+    assert_eq!(rt; apply(rt, page, Edit::Append(MOST_DEPTH, 0)), "depth");
     assert_eq!(rt; page.root(DocumentId(0)), Some(NodeId(0)));
 }
 
 #[test]
 fn no_element_stands_deeper_than_the_limit(rt: HostRuntime) -> Result<(), Fail> {
-    let mut page = page_of(&rt, rt.alloc(), Version::First, 257)?;
+    let mut page = page_of(&rt, rt.alloc(), Version::First, MOST_DEPTH + 1)?;
     make_deep(&rt, &mut page);
     see_no_deeper(&rt, &mut page);
     Ok(())
@@ -179,6 +191,7 @@ fn see_growing(rt: &impl Abort, page: &mut PageTree) {
     assert!(rt; matches!(automatic, Err(ThrowKind::TypeError)));
     assert!(rt; page.holds(NodeId(0)));
     page.set(NodeId(0), Declaration::Width(Length::Px(Px(640))));
+    // a width is at least 0 and at most 1,000,000 pixels
     for (by, width) in [(-64, 576), (-640, 0), (64000000, 64000000), (64, 64000000)] {
         see_growth(rt, page, by, width);
     }
@@ -205,11 +218,11 @@ fn see_full(rt: &impl Abort, page: &mut PageTree) {
 
 #[test]
 fn no_more_elements_are_made_than_the_limit(rt: HostRuntime) -> Result<(), Fail> {
-    let mut page = page_of(&rt, rt.alloc(), Version::First, 20_000)?;
+    let mut page = page_of(&rt, rt.alloc(), Version::First, MOST_NODES)?;
     see_full(&rt, &mut page);
-    let page = page_of(&rt, rt.alloc(), Version::Second, 20_000)?;
+    let page = page_of(&rt, rt.alloc(), Version::Second, MOST_NODES)?;
     assert!(rt; !page.is_full());
-    let mut page = page_of(&rt, rt.alloc(), Version::Second, 40_000)?;
+    let mut page = page_of(&rt, rt.alloc(), Version::Second, MOST_NODES_OF_SECOND)?;
     see_full(&rt, &mut page);
     Ok(())
 }
@@ -229,7 +242,7 @@ fn see_frame(rt: &impl Abort, page: &mut PageTree, number: u32) -> Result<(), Fa
 }
 
 fn see_frames(rt: &impl Abort, page: &mut PageTree) -> Result<(), Fail> {
-    for number in 1..64u32 {
+    for number in 1..MOST_DOCUMENTS {
         see_frame(rt, page, number)?;
     }
     Ok(())
@@ -240,11 +253,12 @@ fn see_full_of_documents(rt: &impl Abort, page: &mut PageTree) -> Result<(), Fai
     assert!(rt; page.is_full_of_documents());
     let refused = page.make_frame(DocumentId(0), name);
     assert!(rt; matches!(refused, Err(MakeFault::Limit(LimitKind::Documents))));
+    // a frame for each document but `top` comes before
     assert_eq!(rt;
         page.make(DocumentId(0), name, ItemKind::Block)?,
-        NodeId(63)
+        NodeId(MOST_DOCUMENTS - 1)
     );
-    assert_eq!(rt; page.document_count(), 64);
+    assert_eq!(rt; page.document_count(), MOST_DOCUMENTS);
     Ok(())
 }
 

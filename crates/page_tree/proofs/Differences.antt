@@ -1,5 +1,6 @@
 -- At which elements writing an element or making one changes what is laid out.
 use Rattle.std.proofs.Common.{◌≡◌, ◌≢◌, ℕ, List, [], ◌∷◌, ◌++◌, length, map, true, false, nat_eq, ◌||◌, inl, inr, refl, ap, subst, ◌∙◌}
+use Rattle.std.proofs.lemmas.Bool.{or_parts}
 use Rattle.layout_model.specs.Items.{Item}
 use Rattle.layout_model.specs.Nodes.{is_in_flow}
 use Rattle.layout_model.specs.Boxes.{kids_of}
@@ -16,7 +17,6 @@ use Rattle.page_tree.specs.Items.{Described, carried_in}
 use Rattle.page_tree.specs.Changes.{is_parent, ChangesAtNext, ChangesAtElement}
 use Rattle.page_tree.proofs.Making.{last_seen}
 use Rattle.page_tree.proofs.Moves.{differs, kid_differs}
-use Rattle.kept_layout.proofs.Counts.{neither}
 
 -- where one element alone differs by itself
 module _ (old new : Tree) (n : ℕ) (framed : AreFramed old) (others : (m : ℕ) → m ≢ n → element_at new m ≡ element_at old m) where
@@ -25,7 +25,7 @@ module _ (old new : Tree) (n : ℕ) (framed : AreFramed old) (others : (m : ℕ)
 
   changes_there : ChangesAtElement n old new
   changes_there m other =
-      let parts = neither (nat_eq m n) (is_parent old n m) other in
+      let parts = or_parts (nat_eq m n) (is_parent old n m) other in
       let same : element_at new m ≡ element_at old m = others m (differs m n parts.0) in
       record {
         item = ap (λ (it : Element). it.item) same;

@@ -2,7 +2,7 @@
 use Rattle.std.proofs.Common.{◌≡◌, ◌≢◌, ℕ, List, [], ◌∷◌, Option, Some, None, Bool, true, false, cond, nat_eq, ◌||◌, refl, ap, sym, subst, ◌∙◌}
 use Rattle.std.specs.Prelude.{is_some}
 use Rattle.std.specs.Cmp.{nat_eq_equiv}
-use Rattle.std.proofs.lemmas.Bool.{false≢true, eq-eqb}
+use Rattle.std.proofs.lemmas.Bool.{false≢true, eq-eqb, or_parts}
 use Rattle.layout_model.specs.Styles.{StaticPosition}
 use Rattle.layout_model.specs.Items.{Item}
 use Rattle.layout_model.specs.Nodes.{is_flow}
@@ -18,7 +18,6 @@ use Rattle.page_documents.specs.Frames.{MakeTrees}
 use Rattle.page_documents.proofs.Entries.{unchanged, kept, kept_each}
 use Rattle.page_tree.specs.Changes.{is_parent, is_container, ChangesAtParents, ChangesAtParent}
 use Rattle.page_tree.proofs.Placing.{judged, placing_judged}
-use Rattle.kept_layout.proofs.Counts.{neither}
 use Rattle.kept_layout.proofs.Shapes.{kid_in}
 use Rattle.page_documents.proofs.Between.{number_names}
 
@@ -114,7 +113,7 @@ inserted_moves tree container n sibling =
           kept_each no_element owned (λ (it : Element). it.parent) (λ it. refl) (inclusive_descendants joined n) m (joined.elements)
           ∙ put.parents m other ∙ left.parents m other;
       children = λ m other.
-          let parts = neither (is_parent tree n m) (is_container container m) other in
+          let parts = or_parts (is_parent tree n m) (is_container container m) other in
           kept_each no_element owned (λ (it : Element). it.children) (λ it. refl) (inclusive_descendants joined n) m (joined.elements)
           ∙ put.children m parts.1 ∙ left.children m parts.0;
     }
@@ -135,4 +134,4 @@ placed_only container n sibling old new trees done =
     let is : inserted old container n sibling ≡ new = done_is _ _ _ _ (inserted old container n sibling) new (sym (placing_judged old container n sibling) ∙ done) in
     subst (ChangesAtParents container n old) is
     (only_moved n (λ m. is_parent old n m || is_container container m) old (inserted old container n sibling) trees
-    (λ m other. (neither (is_parent old n m) (is_container container m) other).0) (inserted_moves old container n sibling))
+    (λ m other. (or_parts (is_parent old n m) (is_container container m) other).0) (inserted_moves old container n sibling))

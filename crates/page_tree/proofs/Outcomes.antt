@@ -1,5 +1,5 @@
 -- What is kept of the page as its tree and its documents change.
-use Rattle.std.proofs.Common.{◌≡◌, ◌≤◌, ℕ, ◌<◌, List, [], map, length, Option, Some, None, Bool, option_map, refl, ap, sym, subst, ◌∙◌, arith, is_some}
+use Rattle.std.proofs.Common.{◌≡◌, ◌≤◌, ℕ, ◌<◌, List, [], map, length, Option, Bool, refl, ap, sym, subst, ◌∙◌, arith}
 use Rattle.std.proofs.lemmas.List.{length-map}
 use Rattle.text_io.specs.declared.kinds.LimitKind.TheVariants as limits
 use Rattle.text_io.specs.declared.kinds.Version.{Version}
@@ -87,7 +87,3 @@ module _ {version : Version} (old : PageElements) (forest : Forest Described) (d
       most_documents = same ∙ is.most_documents;
       framed = framed;
     }
-
-pub some_still : {A B : Type 0} (f : A → B) (o : Option A) → is_some (option_map f o) ≡ is_some o
-some_still f None = refl
-some_still f (Some x) = refl

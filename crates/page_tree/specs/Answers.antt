@@ -1,4 +1,4 @@
--- How the tree is asked to place an element, and what its refusals come to on the page.
+-- How an element is inserted into the tree, and the page's fault for each refusal by the tree.
 use Rattle.std.specs.Prelude.{ℕ, Bool, false, not, List, Option, Some, None}
 use Rattle.text_io.specs.declared.kinds.LimitKind.TheVariants.{Nodes, Depth}
 use Rattle.text_io.specs.declared.kinds.ThrowKind.TheVariants.{HierarchyRequestError, NotFoundError}
@@ -13,17 +13,17 @@ use Rattle.page_tree.specs.declared.faults.MakeFault.{MakeFault}
 use Rattle.page_tree.specs.declared.faults.MakeFault.TheVariants as made
 use Rattle.page_tree.specs.Items.{Described}
 
--- why an element can't be put under another one, before a sibling or last
+-- why an element can't be inserted into another one, before a sibling or as the last child
 abbrev pub put_fault : Forest Described → ℕ → ℕ → Option ℕ → Option TreeFault
 put_fault forest p n None = append_fault forest p n
 put_fault forest p n (Some sibling) = insert_fault forest p n sibling
 
--- before which child it goes, none where it goes to the end
+-- the child before which it is inserted, none if it becomes the last one
 abbrev pub mark_for : ℕ → Option ℕ → List (Knot Described) → Option ℕ
 mark_for n None nodes = None
 mark_for n (Some sibling) nodes = mark_of n sibling nodes
 
--- an element is placed without memory, and makes no node
+-- placing an element needs no memory and makes no node, so that `NodeLimit` and `Memory` don't come up
 abbrev pub refusal_of : TreeFault → PlaceFault
 refusal_of Hierarchy = Throw HierarchyRequestError
 refusal_of NotAChild = Throw NotFoundError
@@ -31,7 +31,7 @@ refusal_of NodeLimit = Limit Depth
 refusal_of DepthLimit = Limit Depth
 refusal_of Memory = Limit Depth
 
--- room is made without placing anything
+-- making room places nothing, so that only `NodeLimit` and `Memory` come up
 abbrev pub unmade_of : TreeFault → MakeFault
 unmade_of Hierarchy = made.Memory
 unmade_of NotAChild = made.Memory
@@ -39,7 +39,7 @@ unmade_of NodeLimit = made.Limit Nodes
 unmade_of DepthLimit = made.Memory
 unmade_of Memory = made.Memory
 
--- whether a sibling is named that isn't a child of the parent
+-- whether there is a given sibling that isn't a child of the parent
 abbrev pub is_elsewhere : List (Knot Described) → ℕ → Option ℕ → Bool
 is_elsewhere nodes p None = false
 is_elsewhere nodes p (Some sibling) = not (names (parent_of nodes sibling) p)

@@ -13,11 +13,11 @@ abbrev pub is_container : Container → ℕ → Bool
 is_container (InElement parent) m = m == parent
 is_container (InDocument document) m = false
 
--- only one that is made next differs
+-- only the element that is made next differs
 abbrev pub ChangesAtNext : Tree → Tree → Type 0
 ChangesAtNext old new = ChangesOnly (λ m. m == length old.elements) (nodes_of old) (nodes_of new)
 
--- only the parent that an element leaves differs, and where it comes to stand
+-- only the parent that an element leaves and the one that it comes to differ
 abbrev pub ChangesAtParents : Container → ℕ → Tree → Tree → Type 0
 ChangesAtParents container n old new = ChangesOnly (λ m. is_parent old n m || is_container container m) (nodes_of old) (nodes_of new)
 

@@ -10,7 +10,7 @@ use Rattle.page_tree.specs.declared.faults.MakeFault.{MakeFault}
 use Rattle.page_tree.specs.declared.faults.MakeFault.TheVariants as made
 use Rattle.page_tree.specs.Views.{PageElements}
 
--- the step that comes to this
+-- the step with this outcome
 abbrev pub refusal : PlaceFault → Step Tree
 refusal (Throw kind) = Threw kind
 refusal (Limit kind) = Met kind
@@ -29,7 +29,7 @@ element_room page = room (page.version) limits.Nodes (length page.tree.elements)
 abbrev pub frame_room : PageElements → Step (Unit {0})
 frame_room page = element_room page >> room (page.version) limits.Documents (length page.tree.documents)
 
--- why something isn't made for which there has to be this room: the limit is met, or memory was needed and there was none
+-- why something that needs this room isn't made: a limit is met, or memory was needed and refused
 abbrev pub IsUnmade : Step (Unit {0}) → PageElements → MakeFault → Type 0
 IsUnmade step page (made.Limit kind) = step ≡ Met kind
 IsUnmade step page made.Memory = (step ≡ Did tt) × (page.ready ≡ false)

@@ -1,4 +1,4 @@
--- What an element of the page is by itself: its name, its style and its kind, and the documents that it belongs to and holds.
+-- An element of the page by itself: its name, its style and its kind, and the documents that it belongs to and holds.
 use Rattle.std.specs.Prelude.{ℕ, ℤ, pos, ◌≤ℤ◌, List, Option, unsigned_abs}
 use Rattle.px_units.specs.declared.Size.{Size}
 use Rattle.layout_model.specs.Styles.{Style, first_style, declared, Declaration}
@@ -7,7 +7,7 @@ use Rattle.page_documents.specs.Seen.{Carried}
 use Rattle.block_layout.specs.declared.ItemKind.{ItemKind}
 use Rattle.block_layout.specs.declared.ItemKind.TheVariants.{Block, Image, Frame}
 
--- what the tree carries of an element; `document` is its node document, and `framed` the document of a frame
+-- what the tree holds of an element; `document` is its node document, and `framed` the document of a frame
 pub record Described : Type 0 where
   pub name : List ℕ
   pub item : Item
@@ -27,7 +27,7 @@ IsLength units = (pos 0 ≤ℤ units) × (units ≤ℤ pos 2147483647)
 abbrev pub IsNatural : Size → Type 0
 IsNatural size = IsLength size.width × IsLength size.height
 
--- whether a natural size is one that an image has
+-- an image has a natural size in the range of lengths
 abbrev pub IsKind : ItemKind → Type 0
 IsKind Block = Unit {0}
 IsKind (Image size) = IsNatural size
@@ -37,7 +37,7 @@ IsKind Frame = Unit {0}
 abbrev pub carried_in : Described → Carried
 carried_in it = record { item = it.item; document = it.document; framed = it.framed }
 
--- an element just made in a document, and the frame of another one, if there is one
+-- an element just made in a document; `framed` is the document of a frame
 abbrev pub described : List ℕ → Kind → ℕ → Option ℕ → Described
 described name kind document framed = record {
   name = name;
@@ -46,7 +46,7 @@ described name kind document framed = record {
   framed = framed;
 }
 
--- an element given to a document
+-- an element after it was given to a document
 abbrev pub owned_by : ℕ → Described → Described
 owned_by document it = record it { document = document }
 

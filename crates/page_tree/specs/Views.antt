@@ -1,5 +1,5 @@
--- What the tree of the page is seen as: the definitions' elements and documents (DOM, 4.2.1 and 4.5; HTML, 7.3), with what is kept
--- beside them.
+-- The view of the page's tree: the definitions' elements and documents (DOM, 4.2.1 and 4.5; HTML, 7.3), with what is kept beside
+-- them.
 use Rattle.std.specs.Prelude.{◌≡◌, ℕ, ◌≤◌, Bool, List, length, map}
 use Rattle.text_io.specs.declared.kinds.LimitKind.TheVariants as limits
 use Rattle.text_io.specs.declared.kinds.Version.{Version}
@@ -11,8 +11,8 @@ use Rattle.page_documents.specs.Held.{HeldDocuments}
 use Rattle.page_documents.specs.Frames.{AreFramed}
 use Rattle.page_tree.specs.Items.{Described, carried_in}
 
--- the version of the script that the page is for, elements and documents, the name of each element, and whether the room for one more
--- element is made
+-- the version of the script that the page is for, elements and documents, the name of each element, and whether room for one more
+-- element was already made
 pub record PageElements : Type 0 where
   pub version : Version
   pub tree : Tree
@@ -33,7 +33,7 @@ seen_with version forest documents = record {
 abbrev pub seen_page : Version → Forest Described → HeldDocuments → PageElements
 seen_page version forest documents = seen_with version forest (documents.held)
 
--- the tree and the documents have the limits of a page of this version, and documents and frames belong together
+-- the tree and the documents have the limits of a page of this version, and documents and frames agree
 pub record IsPage (version : Version) (forest : Forest Described) (documents : HeldDocuments) : Type 0 where
   pub most_nodes : forest.most_nodes ≡ limit_number version limits.Nodes
   pub counted : length forest.nodes ≤ limit_number version limits.Nodes

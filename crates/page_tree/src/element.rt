@@ -1,4 +1,4 @@
-//! What the tree carries of an element.
+//! The elements of the tree.
 
 ghost use Rattle.std.specs.Prelude.{◌≡◌, refl, option_map};
 ghost use Rattle.element_tree.specs.Documents.{document_number};
@@ -16,8 +16,8 @@ use std::marker::Model;
 use style_values::{Declaration, Style};
 use text_io::Name;
 
-/// An element by itself: its name, its style and its kind, its node document (DOM, 4.4), and the document of a frame (HTML,
-/// 4.8.5). No length in it is negative.
+/// An element without its place in the tree: its name, its style and its kind, its node document (DOM, 4.4), and the document
+/// in it if it is a frame (HTML, 4.8.5). Of its lengths only insets may be negative.
 #[derive(Drop)]
 pub struct Element {
     name: Name,
@@ -43,7 +43,7 @@ impl Model for Element {
 }
 
 impl Element {
-    // Made in this document, and the frame of the other one, if there is one.
+    // An element created in `document`; `framed` is the document in it if it is a frame.
     pub(crate) fn new(
         name: Name,
         kind: ItemKind,
@@ -62,7 +62,7 @@ impl Element {
         }
     }
 
-    /// Its name.
+    /// Returns its name.
     pub fn name(&self) -> Name
         ensures { result ≡ self.now.name }
     {

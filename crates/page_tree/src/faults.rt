@@ -1,26 +1,27 @@
-//! Why a call is refused. A refused call changes nothing.
+//! The errors of a page's tree.
 
 use text_io::{LimitKind, ThrowKind};
 use thiserror::Error;
 
-/// Why a node isn't placed. Nothing is changed then.
+/// Why a node wasn't inserted. Nothing is changed then.
 #[derive(Debug, Drop, Error)]
 pub enum PlaceFault {
-    /// DOM's rules of insertion don't let it stand there.
+    /// DOM's pre-insertion validity rejects it; the exception is thrown.
     #[error("{} is thrown", .0.text())]
     Throw(ThrowKind),
-    /// It would stand too deep.
+    /// It would be too deep in the tree.
     #[error("the limit of {} is met", .0.text())]
     Limit(LimitKind),
 }
 
-/// Why no element, and no frame with its document, is made. Nothing is changed then, but that room may have been made.
+/// Why no element, or no frame with its document, was created. Nothing is changed then, except that capacity may have been
+/// reserved.
 #[derive(Debug, Drop, Error)]
 pub enum MakeFault {
-    /// As many elements, or documents, as a page may have were made.
+    /// The page has its maximum number of elements or documents.
     #[error("the limit of {} is met", .0.text())]
     Limit(LimitKind),
-    /// There is no memory.
+    /// Out of memory.
     #[error("out of memory")]
     Memory,
 }

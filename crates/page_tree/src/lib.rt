@@ -1,5 +1,5 @@
-//! The elements and documents of a page: their trees, styles and kinds, and the commands that change them. Every call is said in
-//! terms of the definitions' elements and documents.
+//! The elements and documents of a page: their trees, styles and kinds, and the commands that change them. Every contract is
+//! in terms of the definitions' elements and documents.
 #![tactic(auto)]
 
 mod element;

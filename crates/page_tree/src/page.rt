@@ -35,14 +35,15 @@ use std::marker::Model;
 use style_values::{Axis, Declaration};
 use text_io::{LimitKind, Name, ThrowKind, Version};
 
-/// As many elements as a path to a root may have.
+/// The maximum number of elements on a path to a root.
 const MOST_DEPTH: u32 = 256;
 
 /// The greatest length of a style, in units of 1/64 pixel: 1,000,000 pixels.
 const MOST_UNITS: i64 = 64_000_000;
 
-/// The elements and documents of a page, within the limits of a version of the script language. A contract sees them as the lists of
-/// a world (`specs/Views.antt`). Both are numbered from 0 in order of making, and stay for good; `top` is document 0.
+/// The elements and documents of a page, within the limits of a version of the script language. A contract sees them as the
+/// lists of a world (`specs/Views.antt`). Both are numbered from 0 in creation order, and are never deleted; `top` is
+/// document 0.
 #[derive(Drop)]
 pub struct PageTree {
     version: Version,
@@ -61,11 +62,12 @@ impl Model for PageTree {
 }
 
 impl PageTree {
-    /// No element, and `top` alone, which is Active, of a page for scripts of this version. The room for all documents is made here.
+    /// Creates a page for scripts of this version, without elements and with the Active document `top`. Capacity for all
+    /// documents is reserved here.
     ///
     /// # Errors
     ///
-    /// Where there is no memory.
+    /// If an allocation fails.
     pub fn new(alloc: Global, version: Version) -> Result<PageTree, AllocError>
         ensures version { IfOk result (λ page. page.version ≡ version) }
         ensures tree { IfOk result (λ page. page.tree ≡ (opening_world version).tree) }
@@ -79,23 +81,24 @@ impl PageTree {
         })
     }
 
-    /// Whether as many elements were made as a page may have: 20,000 in the first version, 40,000 in the second.
+    /// Whether the page has its maximum number of elements: 20,000 in the first version, 40,000 in the second.
     pub fn is_full(&self) -> bool
         ensures { result ≡ not (has_element_room self.now) }
     {
         self.tree.holds(NodeId(most_nodes(self.version) - 1))
     }
 
-    /// Whether as many documents were made as a page may have: 64.
+    /// Whether the page has its maximum number of documents: 64.
     pub fn is_full_of_documents(&self) -> bool
         ensures { result ≡ not (has_document_room self.now) }
     {
         self.documents.is_full()
     }
 
-    /// Makes room for one element, and tells the number that the next `make` or `make_frame` gives it.
+    /// Reserves capacity for one element, and returns the number that the next `make` or `make_frame` gives it.
     ///
-    /// That call doesn't answer `Memory`. `Limit` comes exactly where the page is full; else `Memory` where there is none. Besides the room nothing changes.
+    /// That call won't return `Memory`. `Limit` exactly when the page is full; otherwise `Memory` if an allocation fails.
+    /// Nothing but capacity changes.
     pub fn reserve(&mut self) -> Result<NodeId, MakeFault>
         ensures node { IfOk result (λ node. node.0 ≡ length self.old.tree.elements) }
         ensures roomy { OnOk result (element_room self.old ≡ Did tt) }
@@ -110,10 +113,10 @@ impl PageTree {
         }
     }
 
-    /// Makes an element with this name and kind, in a document and standing nowhere, and gives its number. It has no style set.
+    /// Creates a detached element with this name, kind and node document, and returns its number. It has no style set.
     ///
-    /// `Limit` comes exactly where the page is full; else `Memory` where there is none, which isn't after
-    /// `reserve`. Nothing is changed then but that room may have been made.
+    /// `Limit` exactly when the page is full; otherwise `Memory` if an allocation fails, but never after `reserve`. Nothing
+    /// but capacity is changed then.
     pub fn make(
         &mut self,
         document: DocumentId,
@@ -144,11 +147,11 @@ impl PageTree {
         Ok(node)
     }
 
-    /// Makes a frame with this name, in a document and standing nowhere, and the Fresh document in it, which has no root element
-    /// (HTML, 4.8.5 and 7.3), and gives both names. The frame has no style set.
+    /// Creates a detached frame with this name and node document, and the Fresh document in it, which has no root element
+    /// (HTML, 4.8.5 and 7.3), and returns both ids. The frame has no style set.
     ///
-    /// `Limit(Nodes)` comes exactly where the page is full, then `Limit(Documents)` where 64 documents were made; else
-    /// `Memory` where there is none, which isn't after `reserve`. Nothing is changed then but that room may have been made.
+    /// `Limit(Nodes)` exactly when the page is full, then `Limit(Documents)` exactly when there are 64 documents; otherwise
+    /// `Memory` if an allocation fails, but never after `reserve`. Nothing but capacity is changed then.
     pub fn make_frame(
         &mut self,
         document: DocumentId,
@@ -184,14 +187,15 @@ impl PageTree {
         Ok((node, framed))
     }
 
-    /// Puts an element, with its subtree, among the children of an element, before a sibling or last, or makes it the
-    /// root element of a document (DOM, 4.2.3 pre-insert). It leaves where it stood. Where the named sibling is the element
-    /// itself, its next sibling takes its place. It is adopted with its subtree (DOM, 4.5); documents in frames of the subtree end
-    /// where it stood in the tree of an Active document, and those that are Fresh become Active where it comes to stand in one.
+    /// Inserts an element, with its subtree, into the children of an element, before a sibling or last, or makes it the root
+    /// element of a document (DOM, 4.2.3 pre-insert). It is removed from its old place first. If the given sibling is the
+    /// element itself, its next sibling is used instead. It is adopted with its subtree (DOM, 4.5); Active documents in
+    /// frames of the subtree end if it was in the tree of an Active document, and Fresh ones become Active if it is inserted
+    /// into one.
     ///
-    /// Refused, with nothing changed, by HierarchyRequestError where it would stand in itself, then by NotFoundError
-    /// where the sibling isn't a child there, then by HierarchyRequestError where the document has its root element,
-    /// then by `Limit` where an element would stand deeper than 256. No memory.
+    /// Fails, with nothing changed, with HierarchyRequestError if it would contain itself, then with NotFoundError if the
+    /// sibling isn't a child there, then with HierarchyRequestError if the document already has a root element, then with
+    /// `Limit` if an element would be deeper than 256. Doesn't allocate.
     pub fn place(
         &mut self,
         container: Container,
@@ -217,9 +221,9 @@ impl PageTree {
         }
     }
 
-    /// Takes an element, with its subtree, out of its parent's children, or as root element out of its document (DOM,
-    /// 4.2.3 remove). Where it stood in the tree of an Active document, the Active documents in frames of the subtree become Dead
-    /// for good, with those inside. Nothing where it stands nowhere. No memory.
+    /// Removes an element, with its subtree, from its parent, or as root element from its document (DOM, 4.2.3 remove). If it
+    /// was in the tree of an Active document, the Active documents in frames of the subtree become Dead for good,
+    /// recursively. Does nothing if it is detached. Doesn't allocate.
     pub fn remove(&mut self, node: NodeId)
         requires { node.0 < length self.old.tree.elements }
         ensures done { self.new.tree ≡ removed (self.old.tree) node.0 }
@@ -247,9 +251,9 @@ impl PageTree {
         self.tree.payload_mut(node).apply(declaration);
     }
 
-    /// Adds so many units of 1/64 pixel to an element's width or height, which stays between 0 and 1,000,000 pixels.
+    /// Adds a number of units of 1/64 pixel to an element's width or height, clamped to 0 up to 1,000,000 pixels.
     ///
-    /// TypeError comes exactly where that property isn't in pixels. Nothing is changed then.
+    /// TypeError exactly when that property isn't in pixels. Nothing is changed then.
     pub fn grow(&mut self, node: NodeId, axis: Axis, by: Px) -> Result<(), ThrowKind>
         requires { node.0 < length self.old.tree.elements }
         ensures done { OnOk result (growing (seen_axis axis) node.0 by.0 (self.old.tree) ≡ Did (self.new.tree)) }
@@ -269,7 +273,7 @@ impl PageTree {
 
     /// Sets the natural size of an image, in units of 1/64 pixel.
     ///
-    /// TypeError comes exactly where the element is no image. Nothing is changed then.
+    /// TypeError exactly when the element isn't an image. Nothing is changed then.
     pub fn load(&mut self, node: NodeId, size: Size) -> Result<(), ThrowKind>
         requires node { node.0 < length self.old.tree.elements }
         requires size { IsNatural size }
@@ -290,7 +294,7 @@ impl PageTree {
         Ok(())
     }
 
-    // Puts an element among the children of another one.
+    // Inserts an element into the children of another one.
     fn place_in(
         &mut self,
         parent: NodeId,
@@ -356,7 +360,7 @@ impl PageTree {
         Ok(())
     }
 
-    // The width or height, where it is in pixels.
+    // Returns the width or height, if it is in pixels.
     fn pixels(&self, node: NodeId, axis: Axis) -> Option<Px>
         requires { node.0 < length self.now.tree.elements }
         ensures value { option_map (λ px. unsigned_abs px.0) result
@@ -375,7 +379,7 @@ impl PageTree {
     }
 }
 
-// As many elements as a page for scripts of this version may have, in all.
+// Returns the maximum number of elements of a page for scripts of this version.
 #[tactic(auto, using(crate::proofs::Limits::some_nodes, crate::proofs::Limits::few_nodes))]
 fn most_nodes(version: Version) -> u32
     ensures value { result ≡ limit_number version limits.Nodes }
@@ -384,7 +388,7 @@ fn most_nodes(version: Version) -> u32
     LimitKind::Nodes.number(version) as u32
 }
 
-// Why a node can't be put among the children of another one, before a sibling or last.
+// Checks whether a node can be inserted into the children of another one, before a sibling or last.
 fn check(
     tree: &Tree<Element>,
     parent: NodeId,
@@ -408,7 +412,7 @@ fn check(
     Ok(())
 }
 
-// Whether a sibling is named that isn't a child of the parent.
+// Whether a sibling is given that isn't a child of the parent.
 fn is_no_child(tree: &Tree<Element>, parent: NodeId, sibling: Option<NodeId>) -> bool
     ensures { result ≡ is_elsewhere (tree.now.nodes) parent.0 (option_map number sibling) }
 {
@@ -421,7 +425,7 @@ fn is_no_child(tree: &Tree<Element>, parent: NodeId, sibling: Option<NodeId>) ->
     }
 }
 
-// Puts a node among the children of another one, before a sibling or last.
+// Inserts a node into the children of another one, before a sibling or last.
 fn put(tree: &mut Tree<Element>, parent: NodeId, node: NodeId, sibling: Option<NodeId>)
     requires parent { parent.0 < length tree.old.nodes }
     requires node { node.0 < length tree.old.nodes }
@@ -438,7 +442,7 @@ fn put(tree: &mut Tree<Element>, parent: NodeId, node: NodeId, sibling: Option<N
     prove!(done);
 }
 
-// What a refusal of room for one more node comes to; there are but two.
+// Maps the error of reserving one more node; there are only two.
 fn unmade(fault: TreeFault) -> MakeFault
     ensures { result ≡ unmade_of fault }
 {
@@ -450,7 +454,7 @@ fn unmade(fault: TreeFault) -> MakeFault
     }
 }
 
-// What a refusal of the tree comes to; a node is placed without memory, and none is made.
+// Maps an error of the tree; inserting a node neither allocates nor creates one.
 fn refused(fault: TreeFault) -> PlaceFault
     ensures { result ≡ refusal_of fault }
 {
@@ -463,7 +467,7 @@ fn refused(fault: TreeFault) -> PlaceFault
     }
 }
 
-// A length in pixels with so much added, kept between 0 and the greatest one.
+// Adds to a length in pixels, clamped to 0 up to the greatest one.
 fn grown(units: Px, by: Px) -> Px
     requires { IsUnits units.0 }
     ensures value { unsigned_abs result.0 ≡ grown_by (unsigned_abs units.0) by.0 }

@@ -1,4 +1,4 @@
-//! What is asked of the elements and documents of a page.
+//! Queries on the elements and documents of a page.
 
 ghost use Rattle.std.specs.Prelude.{◌≡◌, ◌≢◌, ℕ, ◌<◌, ◌≤◌, nat_lt, length, option_map, slice_get, Some, None, IfOk, IfSome, IsSome, is_some, true};
 ghost use Rattle.text_io.specs.Limits.{common_limit};
@@ -32,8 +32,8 @@ use text_io::Name;
 
 /// Documents.
 impl PageTree {
-    /// How many documents there are, which is the number of the next one. Documents and frames belong together, which is told here for
-    /// what rests on it.
+    /// Returns the number of documents, which is the number of the next one. Also ensures that documents and frames are
+    /// consistent (`framed`).
     pub fn document_count(&self) -> u32
         ensures value { result ≡ length self.now.tree.documents }
         ensures bound { length self.now.tree.documents ≤ common_limit limits.Documents }
@@ -42,7 +42,7 @@ impl PageTree {
         self.documents.count()
     }
 
-    /// The state of a document. Dead where there is no such document.
+    /// Returns the state of a document, Dead if there is no such document.
     pub fn state(&self, document: DocumentId) -> DocumentState
         ensures { seen_state result ≡ (document_at (self.now.tree) document.0).state }
     {
@@ -53,7 +53,7 @@ impl PageTree {
         }
     }
 
-    /// Whether a document is Active (HTML, 7.3: active document). Not where there is no such document.
+    /// Whether a document is Active (HTML, 7.3: active document). False if there is no such document.
     pub fn is_active(&self, document: DocumentId) -> bool
         ensures value { result ≡ is_active (self.now.tree) document.0 }
         ensures bound { result ≡ true → document.0 < common_limit limits.Documents }
@@ -67,18 +67,19 @@ impl PageTree {
         }
     }
 
-    /// The Active documents by preorder of the frame tree, the frames of one document in tree order.
+    /// Returns the Active documents in preorder of the frame tree, the frames of one document in tree order.
     ///
     /// # Errors
     ///
-    /// Where there is no memory.
+    /// If an allocation fails.
     pub fn active_documents(&self) -> Result<Vec<DocumentId>, AllocError>
         ensures { IfOk result (λ found. document_numbers found.items ≡ active_documents (self.now.tree)) }
     {
         self.documents.active(&self.tree)
     }
 
-    /// The root element of a document, none where it has none or there is no such document. It has no parent.
+    /// Returns the root element of a document, `None` if it has none or there is no such document. A root element has no
+    /// parent.
     pub fn root(&self, document: DocumentId) -> Option<NodeId>
         ensures value { option_map number result ≡ (document_at (self.now.tree) document.0).root }
         ensures alone { (n : ℕ) → (document_at (self.now.tree) document.0).root ≡ Some n → (element_at (self.now.tree) n).parent ≡ None }
@@ -88,7 +89,7 @@ impl PageTree {
         root_of(&self.tree, &self.documents, document)
     }
 
-    /// The frame of a document (HTML, 7.3: container). None exactly for `top` and where there is no such document.
+    /// Returns the frame of a document (HTML, 7.3: container), `None` exactly for `top` and if there is no such document.
     pub fn frame_of(&self, document: DocumentId) -> Option<NodeId>
         ensures value { option_map number result ≡ (document_at (self.now.tree) document.0).frame }
         ensures top { document.0 ≡ 0 → result ≡ None }
@@ -101,7 +102,7 @@ impl PageTree {
         }
     }
 
-    /// The documents from `top` to this one, each the one that holds the frame of the next. It takes no memory.
+    /// Returns the documents from `top` to this one, each containing the frame of the next. It doesn't allocate.
     pub fn path(&self, document: DocumentId) -> SmallVec<DocumentId, 64>
         requires { document.0 < length self.now.tree.documents }
         ensures path { document_numbers result.items ≡ path_to (self.now.tree) document.0 }
@@ -110,14 +111,15 @@ impl PageTree {
         self.documents.path(&self.tree, document)
     }
 
-    /// The node document of an element (DOM, 4.4). `top` where there is no such element.
+    /// Returns the node document of an element (DOM, 4.4), `top` if there is no such element.
     pub fn document_of(&self, node: NodeId) -> DocumentId
         ensures { result.0 ≡ (element_at (self.now.tree) node.0).document }
     {
         document_of(&self.tree, &self.documents, node)
     }
 
-    /// The document in whose tree an element stands, none where it stands in no document's tree (DOM, 4.2.1: in a document tree).
+    /// Returns the document whose tree contains an element, `None` if it is in no document's tree (DOM, 4.2.1: in a document
+    /// tree).
     pub fn tree_document(&self, node: NodeId) -> Option<DocumentId>
         requires { node.0 < length self.now.tree.elements }
         ensures { option_map document_number result ≡ tree_document (self.now.tree) node.0 }
@@ -125,7 +127,7 @@ impl PageTree {
         self.documents.tree_document(&self.tree, node)
     }
 
-    /// The document in a frame (HTML, 4.8.5: content navigable), none for another element.
+    /// Returns the document in a frame (HTML, 4.8.5: content navigable), `None` for any other element.
     pub fn framed(&self, node: NodeId) -> Option<DocumentId>
         ensures { option_map document_number result ≡ (element_at (self.now.tree) node.0).framed }
     {
@@ -139,7 +141,8 @@ impl PageTree {
 
 /// Elements.
 impl PageTree {
-    /// Whether this page gave the element. No element stands deeper than the limit, which is told here for what rests on it.
+    /// Whether the page has this element. Also ensures that the lists are trees (`trees`) and that no element is deeper than
+    /// the limit (`deep`).
     pub fn holds(&self, node: NodeId) -> bool
         ensures value { result ≡ nat_lt node.0 (length self.now.tree.elements) }
         ensures trees { AreTrees (nodes_of (self.now.tree)) }
@@ -148,7 +151,7 @@ impl PageTree {
         self.tree.holds(node)
     }
 
-    /// The name of an element.
+    /// Returns the name of an element.
     pub fn name_of(&self, node: NodeId) -> Name
         requires { node.0 < length self.now.tree.elements }
         ensures { slice_get self.now.names node.0 ≡ Some result }
@@ -156,7 +159,7 @@ impl PageTree {
         self.tree.payload(node).name()
     }
 
-    /// The style of an element.
+    /// Returns the style of an element.
     pub fn style(&self, node: NodeId) -> &Style
         requires { node.0 < length self.now.tree.elements }
         ensures value { seen_style result.now ≡ (element_at (self.now.tree) node.0).item.style }
@@ -165,7 +168,7 @@ impl PageTree {
         self.tree.payload(node).style()
     }
 
-    /// The kind of an element.
+    /// Returns the kind of an element.
     pub fn kind(&self, node: NodeId) -> ItemKind
         requires { node.0 < length self.now.tree.elements }
         ensures value { seen_kind result ≡ (element_at (self.now.tree) node.0).item.kind }
@@ -174,7 +177,7 @@ impl PageTree {
         self.tree.payload(node).kind()
     }
 
-    /// The depth of an element: how many elements stand on the path to its root, both included, so 1 at a root (Resize
+    /// Returns the depth of an element: the number of elements on the path to its root, both included, so 1 at a root (Resize
     /// Observer, 3.4 calculate depth for node).
     pub fn depth(&self, node: NodeId) -> u32
         ensures { result ≡ element_depth (self.now.tree) node.0 }
@@ -182,7 +185,8 @@ impl PageTree {
         self.tree.depth(node)
     }
 
-    /// Where an element stands: under its parent, or as the root element of its node document; none where it stands nowhere.
+    /// Returns the container of an element: its parent, or its node document if it is the root element; `None` if it is
+    /// detached.
     pub fn container_of(&self, node: NodeId) -> Option<Container>
         ensures { option_map seen_container result ≡ container_of (self.now.tree) node.0 }
     {
@@ -196,7 +200,7 @@ impl PageTree {
         self.container_of(node).is_some()
     }
 
-    /// The tree by itself, as layout reads it. No element stands more than 256 deep in it.
+    /// Returns the tree that layout reads. No element is more than 256 deep in it.
     pub fn tree(&self) -> &Tree<Element>
         ensures value { seen_with self.now.version result.now self.now.tree.documents ≡ self.now }
         ensures nodes { nodes_of (self.now.tree) ≡ tree_in style_in kind_in result.now.nodes }

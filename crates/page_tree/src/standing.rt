@@ -1,4 +1,4 @@
-//! Where an element stands, and what its leaving makes of the documents (DOM, 4.2.1 and 4.2.3).
+//! The container of an element, and the effect of its removal on the documents (DOM, 4.2.1 and 4.2.3).
 
 ghost use Rattle.std.specs.Prelude.{◌≡◌, ◌<◌, length, option_map, IfSome};
 ghost use Rattle.element_tree.specs.Links.{number};
@@ -16,10 +16,10 @@ use crate::element::Element;
 use element_tree::{Container, DocumentId, NodeId, Tree};
 use page_documents::{Documents, Owned};
 
-/// The document `top`, which elements that aren't there count as elements of.
+/// The document `top`, the node document of elements that don't exist.
 const TOP: DocumentId = DocumentId(0);
 
-// The node document of an element.
+// Returns the node document of an element.
 pub(crate) fn document_of(tree: &Tree<Element>, documents: &Documents, node: NodeId) -> DocumentId
     ensures { result.0 ≡ (element_at (seen_tree carried_in tree.now documents.now.held) node.0).document }
 {
@@ -30,7 +30,7 @@ pub(crate) fn document_of(tree: &Tree<Element>, documents: &Documents, node: Nod
     }
 }
 
-// The root element of a document, none where there is no such document.
+// Returns the root element of a document, `None` if there is no such document.
 pub(crate) fn root_of(
     tree: &Tree<Element>,
     documents: &Documents,
@@ -45,7 +45,7 @@ pub(crate) fn root_of(
     }
 }
 
-// Whether this is the node that is named.
+// Whether `named` is this node.
 fn is_named(named: Option<NodeId>, node: NodeId) -> bool
     ensures { result ≡ is_number (option_map number named) node.0 }
 {
@@ -65,7 +65,7 @@ fn is_root_element(tree: &Tree<Element>, documents: &Documents, node: NodeId) ->
     )
 }
 
-// Where an element stands, none where it stands nowhere.
+// Returns the container of an element, `None` if it is detached.
 pub(crate) fn container_of(
     tree: &Tree<Element>,
     documents: &Documents,
@@ -84,7 +84,7 @@ pub(crate) fn container_of(
     }
 }
 
-// Whether an element that stands here is the root element of this document.
+// Whether an element with this container is the root element of this document.
 fn is_in_document(container: Option<Container>, document: DocumentId) -> bool
     ensures { result ≡ is_container_of (InDocument document.0) (option_map seen_container container) }
 {
@@ -94,7 +94,7 @@ fn is_in_document(container: Option<Container>, document: DocumentId) -> bool
     }
 }
 
-// Whether a sibling is named that isn't the root element of the document.
+// Whether a sibling is given that isn't the root element of the document.
 pub(crate) fn is_no_root(
     tree: &Tree<Element>,
     documents: &Documents,
@@ -109,7 +109,7 @@ pub(crate) fn is_no_root(
     }
 }
 
-// Ends the documents in frames of a subtree that is taken out of the tree of an Active document.
+// Ends the documents in frames of a subtree that is removed from the tree of an Active document.
 fn end_inside(tree: &Tree<Element>, documents: &mut Documents, node: NodeId)
     requires { node.0 < length tree.now.nodes }
     ensures { let before = seen_tree carried_in tree.now documents.old.held in
@@ -120,7 +120,7 @@ fn end_inside(tree: &Tree<Element>, documents: &mut Documents, node: NodeId)
     }
 }
 
-// What becomes of the documents as an element is taken out of where it stands. The tree stays as it is.
+// Updates the documents for the removal of an element. The tree is unchanged.
 pub(crate) fn leave(tree: &Tree<Element>, documents: &mut Documents, node: NodeId)
     requires { node.0 < length tree.now.nodes }
     ensures { documents.new ≡ record documents.old { held = (removed (seen_tree carried_in tree.now documents.old.held) node.0).documents } }

@@ -1,6 +1,6 @@
 -- What a container or a viewport reaches over, by what holds boxes.
 use Rattle.std.proofs.Common.{◌≡◌, ◌≤◌, ◌<◌, ◌⊎◌, inl, inr, ℕ, zero, suc, Bool, true, false, cond, Option, Some, None, List, [], ◌∷◌, refl, ap, sym, subst, ◌∙◌, arith, eqb-true, eq-eqb}
-use Rattle.std.proofs.lemmas.Bool.{false≢true}
+use Rattle.std.proofs.lemmas.Bool.{false≢true, and_parts}
 use Rattle.std.specs.Prelude.{◌==◌, ◌&&◌, not, find, is_some, pos, Contains}
 use Rattle.layout_model.specs.Styles.{Style}
 use Rattle.layout_model.specs.Clips.{clips, is_block}
@@ -210,14 +210,6 @@ absolute_top at shallow root top =
     absolute_outer at shallow root (ap (λ q. not (is_static q)) (top_static at root top))
     ∙ ap (λ above. held_by (find (λ a. is_positioned (at a)) above)) (ancestors_top at root top)
 
-left_true : (a b : Bool) → (a && b) ≡ true → a ≡ true
-left_true true b is = refl
-left_true false b is = is
-
-right_true : (a b : Bool) → (a && b) ≡ true → b ≡ true
-right_true true b is = is
-right_true false b is = absurd (false≢true is)
-
 with_box : (at : ℕ → Node) → IsListed at → IsShallow at → (view : View) (d : ℕ) → is_some (inputs_in_view at view d) ≡ true → Contains (tree_in at (view.root)) d
 with_box at listed shallow view d boxed = by_inputs (inputs_in_view at view d) refl boxed
   where
@@ -298,9 +290,9 @@ module _ (at : ℕ → Node) (view : View) (root : ℕ) (is : view.root ≡ Some
   unfolding has_box_along
   shown_root [] boxed = absurd (false≢true boxed)
   shown_root (n ∷ []) boxed =
-      let same : n ≡ root = eqb-true n root (right_true (not ((at n).item.style.hidden)) (n == root) boxed) in
-      subst (λ m. not ((at m).item.style.hidden) ≡ true) same (left_true (not ((at n).item.style.hidden)) (n == root) boxed)
-  shown_root (n ∷ m ∷ more) boxed = over (shown_root (m ∷ more)) (right_true (is_block ((at m).item.kind)) (has_box_along at root (m ∷ more)) (right_true (not ((at n).item.style.hidden)) _ boxed))
+      let same : n ≡ root = eqb-true n root (and_parts (not ((at n).item.style.hidden)) (n == root) boxed).1 in
+      subst (λ m. not ((at m).item.style.hidden) ≡ true) same (and_parts (not ((at n).item.style.hidden)) (n == root) boxed).0
+  shown_root (n ∷ m ∷ more) boxed = over (shown_root (m ∷ more)) ((and_parts (is_block ((at m).item.kind)) (has_box_along at root (m ∷ more)) (and_parts (not ((at n).item.style.hidden)) _ boxed).1).1)
     where
       over : (has_box_along at root (m ∷ more) ≡ true → not ((at root).item.style.hidden) ≡ true) → has_box_along at root (m ∷ more) ≡ true → not ((at root).item.style.hidden) ≡ true
       over rest here = rest here

@@ -12,7 +12,7 @@ abbrev pub part : {A : Type 0} → Axis → A × A → A
 part Across pair = pair.0
 part Down pair = pair.1
 
--- the margin of the far side
+-- the far side along an axis, which is the right or the bottom one
 abbrev pub far_side : {A : Type 0} → Axis → Sides A → A
 far_side Across sides = sides.right
 far_side Down sides = sides.bottom
@@ -22,14 +22,14 @@ abbrev pub along : Axis → Inputs → Sides (Option ℤ) → Box → Along
 along Across inputs insets box = across inputs insets box
 along Down inputs insets box = down inputs insets box
 
--- where a box of this position stands, the padding box of what holds it being at `corner`
+-- where a box with this position is, with the padding box of its holder at `corner` and the box's place in flow at `in_flow`
 abbrev pub placed_from : Position → Along → ℤ → ℤ → ℤ
 placed_from StaticPosition it corner in_flow = in_flow
 placed_from RelativePosition it corner in_flow = in_flow +ℤ shift_by it.near it.far
 placed_from AbsolutePosition it corner in_flow = placed_along it corner in_flow
 placed_from FixedPosition it corner in_flow = placed_along it corner in_flow
 
--- the same, by how far it is moved and from where
+-- the same, given how far the box is moved and from where
 abbrev pub moved_from : Moved → ℤ → ℤ → ℤ
 moved_from (FromHolder by) corner in_flow = corner +ℤ by
 moved_from (FromFlow by) corner in_flow = in_flow +ℤ by
@@ -38,7 +38,7 @@ abbrev pub moved_by : Moved → ℤ
 moved_by (FromHolder by) = by
 moved_by (FromFlow by) = by
 
--- where another box stands, or the viewport where there is none
+-- the place of another box, or of the viewport if there is none
 abbrev pub place_of : (ℕ → ℤ × ℤ) → Option ℕ → ℤ × ℤ
 place_of flat None = (pos 0, pos 0)
 place_of flat (Some n) = flat n

@@ -1,4 +1,4 @@
--- What is measured of boxes, and when it is so of the boxes in a view.
+-- The measures of boxes, and when they are those of the boxes in a view.
 use Rattle.std.specs.Prelude.{◌≡◌, ℕ, Bool, true, Option, Some, None, option_map, is_some}
 use Rattle.px_units.specs.Lengths.{cap}
 use Rattle.layout_model.specs.Nodes.{Node, is_in_path}
@@ -38,27 +38,27 @@ measured_with at view n inputs box = record {
   clips = clips (at n);
 }
 
--- by its parent: the root element of the view, or a node whose parent has a box
+-- given its parent: the root element of the view, or a node whose parent has a box
 abbrev pub is_come_to : (ℕ → Node) → View → ℕ → Option ℕ → Type 0
 is_come_to at view n None = view.root ≡ Some n
 is_come_to at view n (Some p) = is_some (inputs_in_view at view p) ≡ true
 
--- a node that a walk comes to
+-- a node that a walk visits
 abbrev pub IsComeTo : (ℕ → Node) → View → ℕ → Type 0
 IsComeTo at view n = is_come_to at view n (at n).parent
 
--- the measure of a node's box in a view, none exactly without a box
+-- the measure of a node's box in a view, none exactly if it has no box
 abbrev pub IsMeasureOf : (ℕ → Node) → View → ℕ → Option Measured → Type 0
 IsMeasureOf at view n measured = measured ≡ option_map (λ inputs. measured_with at view n inputs (box_in at inputs n)) (inputs_in_view at view n)
 
--- that of each such node
+-- the same for each node that a walk visits
 abbrev pub AreMeasuresOf : (ℕ → Node) → View → (ℕ → Option Measured) → Type 0
 AreMeasuresOf at view measured = (n : ℕ) → IsComeTo at view n → IsMeasureOf at view n (measured n)
 
--- those of a node and its ancestors, on which its place rests: what holds a box is an ancestor
+-- the same for a node and its ancestors, on which its place depends, since whatever holds a box is an ancestor
 abbrev pub AreMeasuresUp : (ℕ → Node) → View → ℕ → (ℕ → Option Measured) → Type 0
 AreMeasuresUp at view n measured = (m : ℕ) → is_in_path at m n ≡ true → IsMeasureOf at view m (measured m)
 
--- the same of a node whose box there is
+-- the same for a node that has a box
 abbrev pub IsMeasuredAt : (ℕ → Node) → View → ℕ → Measured → Type 0
 IsMeasuredAt at view n measured = measured ≡ measured_with at view n (inputs_under at view n) (box_in at (inputs_under at view n) n)

@@ -40,7 +40,7 @@ seen_measure measure = record {
   clips = measure.clips;
 }
 
--- lengths by what they are without a sign, but for insets
+-- lengths by their absolute values, except for insets
 abbrev pub seen_side : Side → Along
 seen_side side = record {
   containing = unsigned_abs side.containing;
@@ -69,7 +69,8 @@ IsSpanOfSize size = IsSpan size.width × IsSpan size.height
 abbrev pub IsLength : ℤ → Type 0
 IsLength units = (pos 0 ≤ℤ units) × (units ≤ℤ pos 2147483647)
 
--- no number of a measure is negative or above 2 ^ 40, and no border is above the largest length
+-- no number of a measure is negative or above 2 ^ 40, and neither coordinate of the padding box's corner is above the largest
+-- length
 pub record IsMeasure (measure : Measure) : Type 0 where
   pub width : IsSpan measure.width
   pub height : IfSome measure.height IsSpan
@@ -81,18 +82,18 @@ pub record IsMeasure (measure : Measure) : Type 0 where
   pub padding : IsSpanOfSize measure.padding
   pub border : IsSpanOfSize measure.border
 
--- as far from 0 as the largest length at most
+-- at most the largest length away from 0
 abbrev pub IsReach : ℤ → Type 0
 IsReach units = (neg_ℤ (pos 2147483647) ≤ℤ units) × (units ≤ℤ pos 2147483647)
 
--- as far from 0 as so many boxes, one placed by the other, can be
+-- at most as far from 0 as so many boxes can be, each placed relative to another
 abbrev pub IsNear : ℕ → ℤ → Type 0
 IsNear boxes units = (neg_ℤ (pos (4294967296 * boxes)) ≤ℤ units) × (units ≤ℤ pos (4294967296 * boxes))
 
 abbrev pub IsNearPoint : ℕ → Point → Type 0
 IsNearPoint boxes point = IsNear boxes point.left × IsNear boxes point.top
 
--- and a border further
+-- the same, and a border further
 abbrev pub IsCorner : ℕ → ℤ → Type 0
 IsCorner boxes units =
     (neg_ℤ (pos (4294967296 * boxes + 2147483647)) ≤ℤ units) × (units ≤ℤ pos (4294967296 * boxes + 2147483647))
@@ -108,7 +109,7 @@ pub record IsSide (side : Side) : Type 0 where
   pub far_margin : IsSpan side.far_margin
   pub border : IsSpan side.border
 
--- an element that holds a box
+-- a fact about what holds a box, if that is an element
 abbrev pub IfElement : Holder → (ℕ → Type 0) → Type 0
 IfElement (holder.Node node) fact = fact node.0
 IfElement holder.Page fact = Unit {0}

@@ -1,4 +1,4 @@
-//! What holds a box.
+//! Holders: the containing blocks of boxes.
 
 ghost use Rattle.std.specs.Prelude.{◌≡◌, ◌<◌, ℕ, length, option_map, find, IfSome};
 ghost use Rattle.layout_model.specs.Nodes.{Node, ancestors_of, position_of, is_positioned, holder};
@@ -12,7 +12,7 @@ use crate::{Holder, Placed};
 use element_tree::{NodeId, Tree};
 use style_values::Position;
 
-/// How an element is positioned: a root element counts as static. No memory.
+/// Returns the used `position` of an element: that of a root element is static. Doesn't allocate.
 pub fn position<P: Placed>(tree: &Tree<P>, node: NodeId) -> Position
     requires { node.0 < length tree.now.nodes }
     ensures value { (at : ℕ → Node) → AreNodesOf P.placed tree.now.nodes at → seen_position result ≡ position_of (at node.0) }
@@ -35,7 +35,7 @@ pub(crate) fn is_positioned<P: Placed>(tree: &Tree<P>, node: NodeId) -> bool
     }
 }
 
-// The nearest ancestor that is positioned.
+// Returns the nearest positioned ancestor.
 pub(crate) fn positioned_ancestor<P: Placed>(tree: &Tree<P>, node: NodeId) -> Option<NodeId>
     requires { node.0 < length tree.now.nodes }
     ensures value { (at : ℕ → Node) → AreNodesOf P.placed tree.now.nodes at →
@@ -53,7 +53,7 @@ pub(crate) fn positioned_ancestor<P: Placed>(tree: &Tree<P>, node: NodeId) -> Op
     None
 }
 
-// The box of this element, or the page.
+// Returns the box of this element, or the page for `None`.
 fn held_by(element: Option<NodeId>) -> Holder
     ensures { result ≡ held_from element }
 {
@@ -63,9 +63,9 @@ fn held_by(element: Option<NodeId>) -> Holder
     }
 }
 
-/// What holds a node's box: in flow its parent's box; for an absolute one that of its nearest positioned ancestor, or the page where
-/// there is none; for a fixed one the screen; for a root element, which counts as static, the page. An element that holds it is nearer
-/// to the root. No memory.
+/// Returns the holder of a node's box: in flow its parent's box; for an absolute box that of its nearest positioned ancestor,
+/// or the page if there is none; for a fixed box the screen; for a root element, which counts as static, the page. A holder
+/// that is an element is nearer to the root. Doesn't allocate.
 pub fn holder_of<P: Placed>(tree: &Tree<P>, node: NodeId) -> Holder
     requires { node.0 < length tree.now.nodes }
     ensures value { (at : ℕ → Node) → AreNodesOf P.placed tree.now.nodes at → seen_holder result ≡ holder at node.0 }

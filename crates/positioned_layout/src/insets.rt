@@ -14,7 +14,7 @@ use style_values::Position;
 
 const LARGEST: i64 = 2_147_483_647;
 
-// A number that is no farther from 0 than the largest length.
+// Clamps a number to the largest length on either side of 0.
 fn clamped(units: i64) -> i64
     ensures value { result ≡ clamped units }
     ensures range { IsReach result }
@@ -22,7 +22,7 @@ fn clamped(units: i64) -> i64
     units.max(-LARGEST).min(LARGEST)
 }
 
-// An inset against the size of the containing block, which may be indefinite.
+// Resolves an inset against the size of the containing block, which may be indefinite.
 pub(crate) fn against(inset: Length, basis: Option<i64>) -> Option<i64>
     requires inset { IsInset inset }
     requires basis { IfSome basis IsSpan }
@@ -33,14 +33,14 @@ pub(crate) fn against(inset: Length, basis: Option<i64>) -> Option<i64>
         Length::Auto => None,
         Length::Px(px) => Some(px.0),
         Length::Percent(percent) => {
-            // 2^40 times 1,000,000 is below 2^60, and division cuts toward zero.
+            // 2^40 times 1,000,000 is below 2^60, and division truncates toward zero.
             let part = basis? * i64::from(percent.0) / 10_000;
             Some(clamped(part))
         }
     }
 }
 
-// A margin against the width of the containing block (CSS 2.2, 8.3), which may be larger than the largest length here.
+// Resolves a margin against the width of the containing block (CSS 2.2, 8.3), which may exceed the largest length here.
 pub(crate) fn used_margin(margin: Length, width: i64) -> i64
     requires margin { IsSize margin }
     requires width { IsSpan width }
@@ -73,7 +73,7 @@ pub(crate) struct Side {
     pub(crate) border: i64,
 }
 
-// How far a border box is moved along an axis: from the padding box of its holder, or from its place in the flow, as if it were in flow.
+// The offset of a border box along an axis: from the padding box of its holder, or from its static position.
 #[derive(Clone, Copy)]
 pub(crate) enum Moved {
     FromHolder(i64),
@@ -81,7 +81,7 @@ pub(crate) enum Moved {
 }
 
 impl Side {
-    // How far a relative box is moved.
+    // Returns how far a relative box is moved.
     fn shift(self) -> i64
         requires { IsSide self }
         ensures value { result ≡ shift_by self.near self.far }
@@ -94,7 +94,8 @@ impl Side {
         }
     }
 
-    // How far the border box of one out of flow is from the padding box of what holds it, None where neither inset stands.
+    // Returns the offset of the border box of a box out of flow from the padding box of its holder, `None` if both insets are
+    // `auto`.
     fn inset(self) -> Option<i64>
         requires { IsSide self }
         ensures value { (corner in_flow : ℤ) →
@@ -110,7 +111,7 @@ impl Side {
         }
     }
 
-    // How far the border box of one of this position is moved, and from where.
+    // Returns how far the border box of a box with this `position` is moved, and from where.
     pub(crate) fn moved(self, position: Position) -> Moved
         requires { IsSide self }
         ensures value { (corner in_flow : ℤ) →

@@ -1,6 +1,6 @@
-//! Where positioned boxes are: what holds each box, its place while nothing is scrolled, and how far scroll containers and viewports
-//! reach (CSS 2.2, 9.3, 9.4.3, 10.1, 10.3.7 and 10.6.4; CSS Positioned Layout 3; CSS Overflow 3, 2.2). All lengths are in units of
-//! 1/64 CSS pixel.
+//! Layout of positioned boxes: the holder (containing block) of each box, its place while nothing is scrolled, and the
+//! scrollable overflow of scroll containers and viewports (CSS 2.2, 9.3, 9.4.3, 10.1, 10.3.7 and 10.6.4; CSS Positioned
+//! Layout 3; CSS Overflow 3, 2.2). All lengths are in units of 1/64 CSS pixel.
 #![tactic(auto)]
 
 mod holders;
@@ -16,7 +16,7 @@ use px_units::{Point, Size};
 pub use reaches::reach;
 use style_values::Style;
 
-/// What a tree carries for placing: elements with a style.
+/// An element with a style, by which it is placed.
 pub trait Placed {
     ghost use Rattle.std.specs.Prelude.{◌≡◌};
     ghost use Rattle.layout_model.specs.Styles.{Style as StyleModel};
@@ -26,13 +26,13 @@ pub trait Placed {
     /// The style, as the definitions of layout see it.
     ghost placed: { Self → StyleModel };
 
-    /// The style of the element.
+    /// Returns the style of the element.
     fn style(&self) -> &Style
         ensures value { seen_style result.now ≡ placed self.now }
         ensures range { IsStyle result.now };
 }
 
-// An element that is laid out by a style is placed by it too.
+// An element that is laid out by a style is placed by the same style.
 impl<P: Styled> Placed for P {
     ghost placed = { P.style };
 
@@ -41,12 +41,12 @@ impl<P: Styled> Placed for P {
     }
 }
 
-/// What is measured of a box. Each number is from 0 to 2^40 units, and no border is above 2,147,483,647.
+/// The measures of a box. Each number is from 0 to 2^40 units, and no border is above 2,147,483,647.
 #[derive(Clone, Copy, Debug, PartialEq, Eq)]
 pub struct Measure {
     /// The width of the containing block.
     pub width: i64,
-    /// The height of the containing block, None where it isn't definite.
+    /// The height of the containing block, `None` if it is indefinite.
     pub height: Option<i64>,
     /// The left and top borders and paddings.
     pub inner: Point,
@@ -56,39 +56,39 @@ pub struct Measure {
     pub margin: Point,
     /// The height of the margin box.
     pub margin_height: i64,
-    /// The heights of the margin boxes of the earlier siblings in flow, at most 2,147,483,647 units; 0 at a root element.
+    /// The heights of the margin boxes of the earlier siblings in flow, at most 2,147,483,647 units; 0 for a root element.
     pub above: i64,
     /// The size of the padding box.
     pub padding: Size,
     /// The size of the border box.
     pub border: Size,
-    /// Whether it clips what is in it.
+    /// Whether it clips its content.
     pub clips: bool,
 }
 
-/// What measures boxes.
+/// A source of the measures of boxes.
 pub trait Measures {
     ghost use Rattle.std.specs.Prelude.{◌≡◌, ℕ, Option, option_map, IfSome};
     ghost use Rattle.positioned_layout.specs.Measured.{Measured};
     ghost use Rattle.positioned_layout.specs.Seen.{seen_measure, IsMeasure};
 
-    /// What is measured of the box of a node of this number.
+    /// The measures of the box of the node with this number.
     ghost measured: { Self → ℕ → Option Measured };
 
-    /// What is measured of a node's box, None exactly without a box. It is asked of nodes without a parent and of those whose parent
-    /// has a box alone.
+    /// Returns the measures of a node's box, `None` exactly when it has no box. Only called for nodes without a parent and
+    /// for those whose parent has a box.
     fn measure(&self, node: NodeId) -> Option<Measure>
         ensures value { option_map seen_measure result ≡ measured self.now node.0 }
         ensures range { IfSome result IsMeasure };
 }
 
-/// What holds a box (CSS 2.2, 10.1: containing block).
+/// The holder of a box (CSS 2.2, 10.1: containing block).
 #[derive(Clone, Copy, Debug, PartialEq, Eq)]
 pub enum Holder {
     /// The box of an element.
     Node(NodeId),
-    /// The page, which its viewport scrolls.
+    /// The page, which the viewport scrolls (the initial containing block).
     Page,
-    /// The screen, which nothing scrolls.
+    /// The screen, which nothing scrolls (the containing block of fixed boxes).
     Screen,
 }

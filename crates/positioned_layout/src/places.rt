@@ -1,4 +1,4 @@
-//! Where border boxes stand while nothing is scrolled.
+//! The places of border boxes while nothing is scrolled.
 
 ghost use Rattle.std.specs.Prelude.{◌≡◌, ◌<◌, ◌+◌, ℕ, pos, ◌+ℤ◌, Some, None, true, false, length, is_some, option_map, unsigned_abs, IfSome};
 ghost use Rattle.layout_model.specs.Nodes.{Node, is_in_path, is_in_flow, holder};
@@ -35,7 +35,7 @@ fn far_side(style: &Style, axis: Axis) -> Length
     }
 }
 
-// A box along an axis. The far margin is read from the style; a measure has the near ones.
+// Returns a box along an axis. The far margin is read from the style; a measure has only the near ones.
 fn side(style: &Style, measure: &Measure, axis: Axis) -> Side
     requires style { IsStyle style.now }
     requires measure { IsMeasure measure.now }
@@ -73,7 +73,7 @@ fn along(point: Point, axis: Axis) -> i64
     }
 }
 
-// A length that isn't negative, cut to the largest.
+// Caps a non-negative length at the largest one.
 fn cut(units: i64) -> i64
     ensures value { result ≡ pos (cap (unsigned_abs units)) }
     ensures range { IsReach result }
@@ -81,7 +81,7 @@ fn cut(units: i64) -> i64
     capped(units.unsigned_abs()) as i64
 }
 
-// The heights above a box, of which there are none across.
+// Returns the height stacked above a box along an axis: 0 horizontally.
 fn above(own: &Measure, axis: Axis) -> i64
     ensures { result ≡ part axis (pos 0, own.now.above) }
 {
@@ -91,7 +91,7 @@ fn above(own: &Measure, axis: Axis) -> i64
     }
 }
 
-// From the corner of a parent's border box to where a child's own is in the flow, or would be.
+// Returns the offset from the corner of a parent's border box to a child's static position.
 fn offset(parent: &Measure, own: &Measure, axis: Axis) -> i64
     requires parent { IsMeasure parent.now }
     requires own { IsMeasure own.now }
@@ -102,7 +102,7 @@ fn offset(parent: &Measure, own: &Measure, axis: Axis) -> i64
     cut(along(parent.inner, axis) + above(own, axis) + along(own.margin, axis))
 }
 
-// The same, where the parent is to be measured.
+// The same, measuring the parent.
 fn offset_in<M: Measures>(measures: &M, parent: NodeId, own: &Measure, axis: Axis) -> i64
     requires { IsMeasure own.now }
     ensures value { (at : ℕ → Node) (view : View) (c : ℕ) → (at c).parent ≡ Some parent.0 → IsMeasureOf at view parent.0 (M.measured measures.now parent.0) →
@@ -115,7 +115,7 @@ fn offset_in<M: Measures>(measures: &M, parent: NodeId, own: &Measure, axis: Axi
     }
 }
 
-// From the viewport's corner to where a root element's border box is.
+// Returns the offset from the viewport's corner to a root element's border box.
 fn top_offset(own: &Measure, axis: Axis) -> i64
     requires { IsMeasure own.now }
     ensures value { (at : ℕ → Node) (view : View) (n : ℕ) → (at n).parent ≡ None → IsMeasuredAt at view n (seen_measure own.now) →
@@ -125,14 +125,14 @@ fn top_offset(own: &Measure, axis: Axis) -> i64
     cut(along(own.margin, axis))
 }
 
-// One step outwards along an axis: how far a box is from another's border box, or from the viewport.
+// One step outwards along an axis: the offset of a box from the border box of another, or from the viewport.
 #[derive(Clone, Copy)]
 struct Step {
     by: i64,
     to: Option<NodeId>,
 }
 
-// From the padding box of what holds a node's box: so far in it.
+// Returns the step to the holder of a node's box, which is at `by` in the holder's padding box.
 fn from_holder<P: Placed, M: Measures>(
     tree: &Tree<P>,
     measures: &M,
@@ -158,7 +158,7 @@ fn from_holder<P: Placed, M: Measures>(
     }
 }
 
-// The near border of an element's box.
+// Returns the near border of an element's box.
 fn corner<M: Measures>(measures: &M, node: NodeId, axis: Axis) -> i64
     ensures value { (at : ℕ → Node) (view : View) → IsMeasureOf at view node.0 (M.measured measures.now node.0) →
         is_some (inputs_in_view at view node.0) ≡ true → result ≡ pos (part axis (border_corner (at node.0).item)) }
@@ -170,7 +170,7 @@ fn corner<M: Measures>(measures: &M, node: NodeId, axis: Axis) -> i64
     }
 }
 
-// From a node's place in the flow, moved so far.
+// Returns the step to a node's parent, from its static position moved by `by`.
 fn from_flow<P: Placed, M: Measures>(
     tree: &Tree<P>,
     measures: &M,
@@ -225,7 +225,7 @@ fn outwards<P: Placed, M: Measures>(
     }
 }
 
-// By steps outwards, each of less than 2^41 units: 65,536 of them stay within 2^57.
+// Sums steps outwards, each of less than 2^41 units: 65,536 of them stay within 2^57.
 fn flat_along<P: Placed, M: Measures>(tree: &Tree<P>, measures: &M, node: NodeId, axis: Axis) -> i64
     requires { node.0 < length tree.now.nodes }
     ensures value { (at : ℕ → Node) (view : View) → AreNodesOf P.placed tree.now.nodes at → AreMeasuresUp at view node.0 (M.measured measures.now) →
@@ -246,12 +246,12 @@ fn flat_along<P: Placed, M: Measures>(tree: &Tree<P>, measures: &M, node: NodeId
     place
 }
 
-/// The place of the border box of a node with a box in its document's viewport, each scroll offset taken as 0. In flow it is where the
-/// node's parent and its earlier siblings put it, for a relative box moved by its insets; out of flow it is by its insets from what holds
-/// it, and on an axis without an inset where it would be in the flow. Exact as long as `measures` is exact for the node and its ancestors.
-/// No memory.
+/// Returns the place of the border box of a node with a box in its document's viewport, with all scroll offsets taken as 0.
+/// In flow it is determined by the node's parent and its earlier siblings, and moved by its insets if it is relative; out of
+/// flow it is offset from its holder by its insets, and on an axis without an inset it is the static position. Exact if
+/// `measures` is exact for the node and its ancestors. Doesn't allocate.
 ///
-/// It goes outwards once for each axis, by the boxes of the node and of those that place it alone.
+/// It walks outwards once per axis, over the boxes of the node and of those that determine its place.
 pub fn flat_place<P: Placed, M: Measures>(tree: &Tree<P>, measures: &M, node: NodeId) -> Point
     requires { node.0 < length tree.now.nodes }
     ensures value { (at : ℕ → Node) (view : View) → AreNodesOf P.placed tree.now.nodes at → AreMeasuresUp at view node.0 (M.measured measures.now) →
@@ -265,7 +265,8 @@ pub fn flat_place<P: Placed, M: Measures>(tree: &Tree<P>, measures: &M, node: No
     }
 }
 
-// Where a child's border box stands along an axis, its parent's being at `flow` and the padding box of what holds it at `held`.
+// Returns the place of a child's border box along an axis, its parent's border box being at `flow` and its holder's padding
+// box at `held`.
 fn placed_along<P: Placed>(
     tree: &Tree<P>,
     node: NodeId,

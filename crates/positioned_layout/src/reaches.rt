@@ -1,4 +1,4 @@
-//! How far scroll containers and viewports reach.
+//! The scrollable overflow of scroll containers and viewports.
 
 ghost use Rattle.std.specs.Prelude.{◌≡◌, ◌<◌, ◌+◌, ◌-◌, ◌+ℤ◌, ◌-ℤ◌, ◌&&◌, ℕ, max, not, Bool, Some, None, true, false, cond, length, find, is_some, IfSome, unsigned_abs};
 ghost use Rattle.px_units.specs.Lengths.{at_least_zero};
@@ -23,15 +23,15 @@ use layout_model::capped;
 use px_units::{Point, Size};
 use style_values::Position;
 
-// What holds boxes on the way down: where its padding box begins, and whether what it holds is reached.
+// A holder on the way down: the corner of its padding box, and whether what it holds counts.
 #[derive(Clone, Copy)]
 struct Held {
     corner: Point,
     opened: bool,
 }
 
-// What can hold the boxes in a node: the node itself for those in flow, its nearest positioned inclusive ancestor or the page for
-// absolute ones, and the screen for fixed ones. `place` is that of the node's border box.
+// The possible holders of the boxes in a node: the node itself for those in flow, its nearest positioned inclusive ancestor
+// or the page for absolute ones, and the screen for fixed ones. `place` is that of the node's border box.
 #[derive(Clone, Copy)]
 struct Around {
     place: Point,
@@ -41,14 +41,15 @@ struct Around {
 }
 
 impl Around {
-    // Whether nothing that is held in the node is reached.
+    // Whether nothing in the node counts.
     fn is_closed(self) -> bool
         ensures { result ≡ (not self.flow && (not self.absolute.opened && not self.fixed.opened)) }
     {
         !self.flow && !self.absolute.opened && !self.fixed.opened
     }
 
-    // What holds a child of this position. One in flow is placed by its parent, so that the corner says nothing then.
+    // Returns the holder of a child with this `position`. A child in flow is placed by its parent; the corner is meaningless
+    // then.
     fn holding(self, position: Position) -> Held
         ensures value { (at : ℕ → Node) (view : View) (opens : Holder → Bool) (p c : ℕ) → IsShallow at → (at c).parent ≡ Some p →
             seen_position position ≡ position_of (at c) → IsAround at view p opens self →
@@ -65,7 +66,7 @@ impl Around {
         }
     }
 
-    // What holds the absolute boxes in a child of this position: the child itself where it is positioned, as `own` tells it.
+    // Returns the holder of the absolute boxes in a child with this `position`: the child itself (`own`) if it is positioned.
     fn absolute_in(self, position: Position, own: Held) -> Held
         ensures value { (at : ℕ → Node) (view : View) (opens : Holder → Bool) (p c : ℕ) → IsShallow at → (at c).parent ≡ Some p →
             seen_position position ≡ position_of (at c) → IsHeld at view opens (absolute_in at p) self.absolute →
@@ -78,7 +79,8 @@ impl Around {
         }
     }
 
-    // The same in a child of this position, whose box is at `place`; `opened` tells whether what the child holds is reached.
+    // Returns the holders in a child with this `position`, whose box is at `place`; `opened` says whether what the child
+    // holds counts.
     fn inside(self, position: Position, place: Point, own: &Measure, opened: bool) -> Around
         requires measure { IsMeasure own.now }
         requires place { IsNearPoint 65536 place }
@@ -98,7 +100,7 @@ impl Around {
     }
 }
 
-// Where the padding box of a border box begins.
+// Returns the corner of the padding box of a border box.
 fn padding_corner(place: Point, own: &Measure) -> Point
     requires measure { IsMeasure own.now }
     requires place { IsNearPoint 65536 place }
@@ -112,7 +114,7 @@ fn padding_corner(place: Point, own: &Measure) -> Point
     }
 }
 
-// The farther of an edge by now and of a border box's, from a corner on.
+// Returns the farther of the farthest edge so far and that of a border box, relative to a corner.
 fn farther(edge: i64, place: i64, border: i64, corner: i64) -> i64
     requires edge { IsEdge edge }
     requires place { IsNear 65536 place }
@@ -124,7 +126,7 @@ fn farther(edge: i64, place: i64, border: i64, corner: i64) -> i64
     edge.max(place + border - corner)
 }
 
-// The farthest edges by now, from a corner on.
+// The farthest edges so far, relative to a corner.
 #[derive(Clone, Copy)]
 struct Farthest {
     corner: Point,
@@ -132,7 +134,7 @@ struct Farthest {
 }
 
 impl Farthest {
-    // With the edges of a border box, where it is reached.
+    // Includes the edges of a border box, if it counts.
     fn with(self, opened: bool, place: Point, border: Size) -> Farthest
         requires place { IsNearPoint 65536 place }
         requires border { IsSpanOfSize border }
@@ -163,14 +165,14 @@ impl Farthest {
     }
 }
 
-// What a walk knows where it enters a child.
+// The state of the walk when it enters a child.
 #[derive(Clone, Copy)]
 struct Entered {
     around: Around,
     far: Farthest,
 }
 
-// Enters a child with a box: the farthest edges with that box's, where it is reached, and what can hold the boxes in it.
+// Enters a child with a box: includes that box's edges, if it counts, and determines the holders of the boxes in it.
 fn enter<P: Placed>(
     tree: &Tree<P>,
     child: NodeId,
@@ -204,7 +206,7 @@ fn enter<P: Placed>(
     }
 }
 
-// The farthest edges with those of the boxes below a node that are reached.
+// Includes the edges of the boxes below a node that count.
 fn far_below<P: Placed, M: Measures>(
     tree: &Tree<P>,
     measures: &M,
@@ -240,12 +242,13 @@ fn far_below<P: Placed, M: Measures>(
     farthest
 }
 
-/// How far something reaches: the scroll container `of`, from the corner of its padding box, over that box and the border boxes that it
-/// holds with no clipping box in between; for None the viewport of this size, over the boxes that the page holds so. `root` is the root
-/// element of the document. Scroll offsets count as 0, and each length is at most 2,147,483,647 units. Exact as long as `measures` is exact
-/// for all boxes of the document. No memory.
+/// Returns the size of the scrollable overflow: of the scroll container `of`, from the corner of its padding box, over that
+/// box and the border boxes that it holds without a clipping box in between; for `None` of the viewport of this size, over
+/// the boxes that the page holds likewise. `root` is the root element of the document. Scroll offsets are taken as 0, and
+/// each length is at most 2,147,483,647 units. Exact if `measures` is exact for all boxes of the document. Doesn't
+/// allocate.
 ///
-/// It calls itself once a level of the tree below.
+/// It recurses once per level of the tree below.
 pub fn reach<P: Placed, M: Measures>(
     tree: &Tree<P>,
     measures: &M,
@@ -276,7 +279,7 @@ const CLOSED: Held = Held {
     opened: false,
 };
 
-// What holds the absolute boxes in a node that isn't positioned itself: it begins where its padding box does, and isn't reached.
+// Returns the holder of the absolute boxes in a node that isn't positioned itself; what it holds doesn't count.
 fn outer_holder<P: Placed, M: Measures>(tree: &Tree<P>, measures: &M, node: NodeId) -> Held
     requires { node.0 < length tree.now.nodes }
     ensures value { (at : ℕ → Node) (view : View) → AreNodesOf P.placed tree.now.nodes at → AreMeasuresUp at view node.0 (M.measured measures.now) →
@@ -297,7 +300,7 @@ fn outer_holder<P: Placed, M: Measures>(tree: &Tree<P>, measures: &M, node: Node
     }
 }
 
-// What holds the absolute boxes in the node whose reach is measured: the node itself where it is positioned.
+// Returns the holder of the absolute boxes in the node whose overflow is measured: the node itself if it is positioned.
 fn absolute_holder<P: Placed, M: Measures>(
     tree: &Tree<P>,
     measures: &M,
@@ -334,7 +337,7 @@ fn container_reach<P: Placed, M: Measures>(tree: &Tree<P>, measures: &M, node: N
     };
     let place = flat_place(tree, measures, node);
     let corner = padding_corner(place, &own);
-    // A box that doesn't clip reaches over itself alone.
+    // The reach of a box that doesn't clip is the box alone.
     let opened = own.clips;
     let around = Around {
         place,

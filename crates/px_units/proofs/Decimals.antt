@@ -21,7 +21,7 @@ unfolding divided
 one_more places left h = grind (arith, common_steps)
 
 -- a test passes below a number
-unfoldable passes_below : (ℕ → Bool) → ℕ → Bool
+unfoldable pub passes_below : (ℕ → Bool) → ℕ → Bool
 passes_below test zero = true
 passes_below test (suc n) = test n && passes_below test n
 
@@ -31,7 +31,7 @@ nat_lt_or k n h = elim (ltb k n) as (λ v. ltb k n ≡ v → (k < n) ⊎ (k ≡ 
 positive : (n : ℕ) → 0 < n → (n == 0) ≡ false
 positive n h = grind (arith, common_steps)
 
-passes : (test : ℕ → Bool) (n k : ℕ) → passes_below test n ≡ true → k < n → test k ≡ true
+pub passes : (test : ℕ → Bool) (n k : ℕ) → passes_below test n ≡ true → k < n → test k ≡ true
 unfolding passes_below
 passes test zero k all h = absurd (omega arith)
 passes test (suc n) k all h =
@@ -45,7 +45,7 @@ all_same : passes_below same_rest 64 ≡ true
 unfolding passes_below same_rest rest_text divided
 all_same = refl
 
-either : (a b : Bool) → a ≡ false → (a || b) ≡ true → b ≡ true
+pub either : (a b : Bool) → a ≡ false → (a || b) ≡ true → b ≡ true
 either false b n h = h
 either true b n h = cc
 

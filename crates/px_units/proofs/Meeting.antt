@@ -13,7 +13,7 @@ max_order a b = grind (arith, ints)
 min_order : (a b : ℤ) → int_min a b ≡ int_min b a
 min_order a b = grind (arith, ints)
 
-same_overlap : (a b : Rect) → overlap a b ≡ overlap b a
+pub same_overlap : (a b : Rect) → overlap a b ≡ overlap b a
 same_overlap a b = same_rect (max_order a.left b.left) (max_order a.top b.top) (min_order a.right b.right) (min_order a.bottom b.bottom)
 
 pub no_order : (a b : Rect) → meeting a b ≡ meeting b a
@@ -44,7 +44,7 @@ in_both a b x y h =
       record { right_of_left = l.1; left_of_right = r.1; below_top = t.1; above_bottom = u.1 },
     )
 
-in_overlap : (a b : Rect) (x y : ℤ) → Holds a x y → Holds b x y → Holds (overlap a b) x y
+pub in_overlap : (a b : Rect) (x y : ℤ) → Holds a x y → Holds b x y → Holds (overlap a b) x y
 in_overlap a b x y g h = record {
   right_of_left = to_max a.left b.left x g.right_of_left h.right_of_left;
   left_of_right = to_min a.right b.right x g.left_of_right h.left_of_right;
@@ -53,16 +53,16 @@ in_overlap a b x y g h = record {
 }
 
 -- a rectangle that holds a point has points
-point_within : (r : Rect) (x y : ℤ) → Holds r x y → has_points r ≡ true
+pub point_within : (r : Rect) (x y : ℤ) → Holds r x y → has_points r ≡ true
 point_within r x y h =
     ap (λ b. b && int_le r.top r.bottom) (le_between r.left x r.right h.right_of_left h.left_of_right)
     ∙ le_between r.top y r.bottom h.below_top h.above_bottom
 
-held_by_some : (r : Rect) (b : Bool) (x y : ℤ) → HeldBy (cond b (Some r) None) x y → Holds r x y
+pub held_by_some : (r : Rect) (b : Bool) (x y : ℤ) → HeldBy (cond b (Some r) None) x y → Holds r x y
 held_by_some r true x y h = h
 held_by_some r false x y h = absurd h
 
-held : (r : Rect) (b : Bool) (x y : ℤ) → b ≡ true → Holds r x y → HeldBy (cond b (Some r) None) x y
+pub held : (r : Rect) (b : Bool) (x y : ℤ) → b ≡ true → Holds r x y → HeldBy (cond b (Some r) None) x y
 held r b x y e h = subst (λ (v : Bool). HeldBy (cond v (Some r) None) x y) (sym e) h
 
 pub common_points : (a b : Rect) (x y : ℤ) → HeldBy (meeting a b) x y ↔ (Holds a x y × Holds b x y)

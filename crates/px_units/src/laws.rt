@@ -1,23 +1,23 @@
-//! Laws of the definitions, each the clause of a function that does nothing.
+//! Laws of the definitions, each stated as the contract of a function with an empty body.
 
 ghost use Rattle.std.specs.Prelude.{◌≡◌, ◌↔◌, ℤ, pos, negsuc, codes};
 ghost use Rattle.px_units.specs.declared.Rect.{Rect};
 ghost use Rattle.px_units.specs.Rects.{meeting, Holds, HeldBy};
 ghost use Rattle.px_units.specs.Texts.{pixel_text};
 
-/// The common part of two rectangles doesn't depend on their order.
+/// The intersection of two rectangles doesn't depend on their order.
 #[tactic(auto, using(crate::proofs::Meeting::no_order))]
 pub fn common_part_has_no_order()
     ensures { (a b : Rect) → meeting a b ≡ meeting b a }
 {}
 
-/// The points of the common part are those of both rectangles; so there is none exactly where they share no point.
+/// The points of the intersection are those in both rectangles; so there is no intersection exactly where they share no point.
 #[tactic(auto, using(crate::proofs::Meeting::common_points))]
 pub fn common_part_is_the_common_points()
     ensures { (a b : Rect) (x y : ℤ) → HeldBy (meeting a b) x y ↔ (Holds a x y × Holds b x y) }
 {}
 
-/// Texts of some lengths.
+/// The texts of some lengths.
 #[tactic(auto, using(crate::proofs::Rows::one_unit, crate::proofs::Rows::half, crate::proofs::Rows::whole, crate::proofs::Rows::nothing, crate::proofs::Rows::largest))]
 pub fn texts_of_units()
     ensures one_unit { pixel_text (pos 1) ≡ codes "0.015625" }

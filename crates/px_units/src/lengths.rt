@@ -6,7 +6,7 @@ ghost use Rattle.px_units.specs.Reading.{fault_of};
 use crate::{Length, Percent, Px};
 use thiserror::Error;
 
-/// Why a text is no length or percentage.
+/// Why a text isn't a length or percentage.
 #[derive(Clone, Copy, Debug, PartialEq, Eq, Error)]
 pub enum LengthFault {
     /// The text isn't a decimal number with the unit.
@@ -20,8 +20,8 @@ pub enum LengthFault {
 /// The largest resolved length, in units of 1/64 pixel.
 const CAP: u64 = 2_147_483_647;
 
-/// The length in units of 1/64 pixel against a basis in units (CSS 2.2, 10.2): a percentage is cut to units, and each
-/// length is at most 2,147,483,647 units. None exactly for `auto`.
+/// Resolves a length against a basis, both in units of 1/64 pixel (CSS 2.2, 10.2): a percentage is truncated to units, and
+/// the result is at most 2,147,483,647 units. Returns `None` exactly for `auto`.
 pub fn resolve(length: Length, basis: i64) -> Option<i64>
     requires not_negative { IsNotNegative length }
     requires low { pos 0 ≤ℤ basis }
@@ -38,7 +38,7 @@ pub fn resolve(length: Length, basis: i64) -> Option<i64>
     }
 }
 
-/// The fault of a text that is no length or percentage.
+/// Returns the fault of a text that isn't a length or percentage.
 fn fault(unit: &[u8], text: &[u8]) -> LengthFault
     ensures { result ≡ fault_of unit.now text.now }
 {
@@ -49,10 +49,11 @@ fn fault(unit: &[u8], text: &[u8]) -> LengthFault
     }
 }
 
-/// A length in pixels with an optional `-`, cut toward zero to units of 1/64 pixel: 1 to 7 digits, optionally a point
-/// and 1 or 2 digits, then `px`; at most 1,000,000 pixels.
+/// Parses a length in pixels, truncated toward zero to units of 1/64 pixel: an optional `-`, 1 to 7 digits, optionally a
+/// point and 1 or 2 digits, then `px`; at most 1,000,000 pixels.
 ///
-/// `OutOfRange` exactly where the text is of no such form, but a decimal number with the unit `px`; `NotALength` for
+/// # Errors
+/// `OutOfRange` exactly where the text doesn't have this form but is a decimal number with the unit `px`; `NotALength` for
 /// any other text.
 pub fn read_px(text: &[u8]) -> Result<Px, LengthFault>
     ensures ok { IfOk result (λ px. signed_of text.now ≡ Some px.0) }
@@ -65,10 +66,11 @@ pub fn read_px(text: &[u8]) -> Result<Px, LengthFault>
     }
 }
 
-/// A percentage with an optional `-`, in hundredths of a percent: 1 to 7 digits, optionally a point and 1 or 2 digits,
+/// Parses a percentage in hundredths of a percent: an optional `-`, 1 to 7 digits, optionally a point and 1 or 2 digits,
 /// then `%`; at most 10,000 percent.
 ///
-/// `OutOfRange` exactly where the text is of no such form, but a decimal number with the unit `%`; `NotALength` for
+/// # Errors
+/// `OutOfRange` exactly where the text doesn't have this form but is a decimal number with the unit `%`; `NotALength` for
 /// any other text.
 pub fn read_percent(text: &[u8]) -> Result<Percent, LengthFault>
     ensures ok { IfOk result (λ percent. signed_percent_of text.now ≡ Some percent.0) }

@@ -19,32 +19,32 @@ pub struct Px(pub i64);
 #[derive(Clone, Copy, Debug, PartialEq, Eq)]
 pub struct Percent(pub i32);
 
-/// The value of a length property.
+/// The value of a property that takes a length.
 #[derive(Clone, Copy, Debug, PartialEq, Eq)]
 pub enum Length {
     /// `auto`
     Auto,
     /// In pixels.
     Px(Px),
-    /// Relative to a basis that the property names.
+    /// Relative to a basis that depends on the property.
     Percent(Percent),
 }
 
-/// A width and a height, in units.
+/// A width and a height, in units of 1/64 CSS pixel unless stated otherwise.
 #[derive(Clone, Copy, Debug, PartialEq, Eq)]
 pub struct Size {
     pub width: i64,
     pub height: i64,
 }
 
-/// A point, in units, x to the right and y downwards.
+/// A point in units of 1/64 CSS pixel: `left` grows to the right, `top` downwards.
 #[derive(Clone, Copy, Debug, PartialEq, Eq)]
 pub struct Point {
     pub left: i64,
     pub top: i64,
 }
 
-/// A rectangle by its four edges, in units.
+/// A rectangle given by its four edges, in units of 1/64 CSS pixel.
 #[derive(Clone, Copy, Debug, PartialEq, Eq)]
 pub struct Rect {
     pub left: i64,
@@ -53,7 +53,7 @@ pub struct Rect {
     pub bottom: i64,
 }
 
-/// Which of an element's boxes a size is of.
+/// Which of an element's boxes a size refers to.
 #[derive(Clone, Copy, Debug, PartialEq, Eq)]
 pub enum BoxKind {
     Content,

@@ -3,7 +3,7 @@ ghost use Rattle.px_units.specs.Rects.{has_points, overlap, meeting, shifted, ar
 
 use crate::Rect;
 
-/// The greatest left and top and the least right and bottom.
+/// Returns the greater left and top and the lesser right and bottom edges.
 fn overlap(a: Rect, b: Rect) -> Rect
     ensures { result ≡ overlap a b }
 {
@@ -15,15 +15,15 @@ fn overlap(a: Rect, b: Rect) -> Rect
     }
 }
 
-/// Whether no edge crosses the opposite one.
+/// Whether the rectangle has a point, edges included: it is inverted on neither axis.
 fn has_points(a: Rect) -> bool
     ensures { result ≡ has_points a }
 {
     a.left <= a.right && a.top <= a.bottom
 }
 
-/// The common part of two rectangles, edges included, so that rectangles that only touch have one. None exactly where
-/// no point is common.
+/// Returns the intersection of two rectangles, edges included, so that rectangles that merely touch have one. Returns
+/// `None` exactly where they share no point.
 pub fn meet(a: Rect, b: Rect) -> Option<Rect>
     ensures { result ≡ meeting a b }
 {
@@ -35,7 +35,7 @@ pub fn meet(a: Rect, b: Rect) -> Option<Rect>
     }
 }
 
-/// The rectangle moved to the right and downwards by so many units. Edges and distances lie between -2^50 and 2^50.
+/// Returns the rectangle translated right by `left` and down by `top`. Edges and distances must be within ±2^50 units.
 pub fn shift(a: Rect, left: i64, top: i64) -> Rect
     requires rect { RectInReach a }
     requires left { InReach left }
@@ -50,7 +50,7 @@ pub fn shift(a: Rect, left: i64, top: i64) -> Rect
     }
 }
 
-/// The area in square units, 0 where an edge crosses the opposite one.
+/// Returns the area in square units, 0 if the rectangle is inverted on either axis.
 pub fn area(a: Rect) -> u128
     ensures { result ≡ area a }
 {

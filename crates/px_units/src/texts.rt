@@ -5,7 +5,7 @@ use crate::Px;
 use std::alloc::{AllocError, Global};
 use word_model::push_decimal;
 
-/// Writes a point and the decimals of so many 64ths of a pixel at the start of the buffer, and answers where they end.
+/// Writes a point and the decimals of `rest` 64ths of a pixel at the start of the buffer, and returns the index after them.
 fn write_rest(buffer: &mut [u8; 7], rest: u64) -> usize
     requires some { 0 < rest }
     requires small { rest < 64 }
@@ -24,8 +24,8 @@ fn write_rest(buffer: &mut [u8; 7], rest: u64) -> usize
     7
 }
 
-/// Appends a point and the decimals of so many 64ths of a pixel, nothing for none. Where memory is refused, nothing is
-/// appended.
+/// Appends a point and the decimals of `rest` 64ths of a pixel, or nothing if `rest` is 0. If an allocation fails, nothing
+/// is appended.
 #[tactic(auto, using(crate::proofs::Decimals::no_rest))]
 fn push_rest(out: &mut Vec<u8>, rest: u64) -> Result<(), AllocError>
     requires { rest < 64 }
@@ -40,7 +40,7 @@ fn push_rest(out: &mut Vec<u8>, rest: u64) -> Result<(), AllocError>
     out.extend_from_slice(&buffer[..end])
 }
 
-/// Appends the minus sign of a negative length. Where memory is refused, nothing is appended.
+/// Appends the minus sign of a negative length. If an allocation fails, nothing is appended.
 #[tactic(auto, unfolding(crate::specs::Texts::sign_text))]
 fn push_sign(out: &mut Vec<u8>, value: Px) -> Result<(), AllocError>
     ensures ok { OnOk result (out.new.items ≡ out.old.items ++ sign_text value.0) }
@@ -52,7 +52,8 @@ fn push_sign(out: &mut Vec<u8>, value: Px) -> Result<(), AllocError>
     Ok(())
 }
 
-/// Appends a length as exact text in CSS pixels. Where memory is refused, what stood there still begins the text.
+/// Appends a length as exact text in CSS pixels. If an allocation fails, the previous contents are kept, but something may
+/// have been appended to them.
 #[tactic(auto, using(crate::proofs::Appends::begins, crate::proofs::Appends::begins_again, crate::proofs::Appends::printed))]
 fn push_parts(out: &mut Vec<u8>, value: Px) -> Result<(), AllocError>
     ensures ok { OnOk result (out.new.items ≡ out.old.items ++ pixel_text value.0) }
@@ -64,8 +65,8 @@ fn push_parts(out: &mut Vec<u8>, value: Px) -> Result<(), AllocError>
     push_rest(out, units % 64)
 }
 
-/// Appends a length as exact text in CSS pixels: a minus sign if it is negative, the whole pixels, and where a rest
-/// remains a point and the rest in millionths with final zeros cut. Where memory is refused, nothing is appended.
+/// Appends a length as exact text in CSS pixels: a minus sign if it is negative, the whole pixels, and, if there is a
+/// fraction, a point and up to six decimals without trailing zeros. If an allocation fails, nothing is appended.
 pub fn push_px(out: &mut Vec<u8>, value: Px) -> Result<(), AllocError>
     ensures ok { OnOk result (out.new.items ≡ out.old.items ++ pixel_text value.0) }
     ensures err { OnErr result (out.new.items ≡ out.old.items) }
@@ -78,7 +79,7 @@ pub fn push_px(out: &mut Vec<u8>, value: Px) -> Result<(), AllocError>
     pushed
 }
 
-/// A length as exact text in CSS pixels: one unit is `0.015625`.
+/// Returns a length as exact text in CSS pixels: one unit is `0.015625`.
 pub fn print_px(alloc: Global, value: Px) -> Result<Vec<u8>, AllocError>
     ensures { IfOk result (λ text. text.items ≡ pixel_text value.0) }
 {

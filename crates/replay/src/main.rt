@@ -8,7 +8,7 @@ use std::sync::ledger::Blank;
 use std::{env, io};
 use text_io::{StdSink, StdSource};
 
-// The arguments without the program's own name.
+// Returns the arguments without the program's name.
 fn words_of(rt: &HostRuntime) -> io::Result<Vec<String>> {
     let mut words = Vec::new(rt.alloc());
     for word in env::args(rt)?.skip(1) {
@@ -17,7 +17,7 @@ fn words_of(rt: &HostRuntime) -> io::Result<Vec<String>> {
     Ok(words)
 }
 
-// What it means that the arguments can't be had. One that isn't UTF-8 is no word of the program.
+// Maps an error in reading the arguments. An argument that isn't UTF-8 isn't a word of the program.
 fn status_of(error: &io::Error) -> Status {
     match error.kind() {
         io::ErrorKind::InvalidData => Status::Usage,

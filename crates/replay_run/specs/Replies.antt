@@ -1,5 +1,5 @@
--- The reply to the words of a command line: the text that is written, and the status once it is. It is one function of the words and
--- of the source's bytes. All of this is this project's own choice.
+-- The reply to the words of a command line: the text that is written, and the status after that. It is a function of the words
+-- and of the source's bytes only. All of this is this project's own choice.
 use Rattle.std.specs.Prelude.{ℕ, cond, nat_lt, List, length}
 use Rattle.text_io.specs.declared.kinds.LimitKind.TheVariants as limits
 use Rattle.text_io.specs.Limits.{common_limit}
@@ -24,12 +24,12 @@ abbrev pub judgement_status : Judgement → Status
 judgement_status (judgements.Equal lines) = Done
 judgement_status (judgements.Differs line how) = Differs
 
--- the line that tells a judgement
+-- the line that reports a judgement
 unfoldable pub judgement_reply : Judgement → Reply
 unfolding judgement_text
 judgement_reply it = record { text = judgement_text it; status = judgement_status it }
 
--- the judgement of the recorded trace behind a script, beside the trace of the script, whatever that one ends with
+-- the recorded trace behind a script, judged against the trace of the script, however that one ends
 unfoldable pub judge_reply : List ℕ → Reply
 unfolding judgement judgement_reply last_line line_text script_of trace trace_of
 judge_reply source =
@@ -37,7 +37,7 @@ judge_reply source =
     (refused_with (LimitAt limits.Recorded (last_line (common_limit limits.Recorded) source)))
     (judgement_reply (judgement (trace (script_of source)) (trace_of source)))
 
--- the text of the script that the words speak of
+-- the text of the script that the words refer to
 abbrev pub script_text : Words → List ℕ → List ℕ
 script_text (Script job) source = source
 script_text (Generated job number) source = generated number

@@ -1,4 +1,4 @@
-//! The top call.
+//! The top-level call.
 
 ghost use Rattle.std.specs.Prelude.{◌≡◌, ◌↔◌, ◌<◌, ◌&&◌, None, Some, is_some, map, string_bytes, IfSome};
 ghost use Rattle.text_io.specs.Streams.{Rose};
@@ -23,7 +23,7 @@ use step_count::Steps;
 use stream_replay::run_pages;
 use text_io::{Sink, Source};
 
-// Does with the script of the source what is asked.
+// Performs a job on the script of the source.
 fn perform_on_source<S: Source, K: Sink, L: Ledger>(
     alloc: Global,
     job: Job,
@@ -46,7 +46,7 @@ fn perform_on_source<S: Source, K: Sink, L: Ledger>(
     }
 }
 
-// The same with the script of a number.
+// The same with the script generated from a number.
 fn perform_on_number<K: Sink, L: Ledger>(
     alloc: Global,
     job: Job,
@@ -64,32 +64,36 @@ fn perform_on_number<K: Sink, L: Ledger>(
     }
 }
 
-/// Does what the words ask for, and writes what is to be said of it line by line to the sink:
+/// Executes a command line, given as `words`, and writes the result line by line to the sink:
 ///
-/// - no words: replays the script that the source has left, and writes its trace;
-/// - `--check`: reads that script, and writes `ok` and the number of its commands, those of handlers and blocks included;
-/// - `--lint`: reads it, and writes whether its resize loops always go deeper (`steady`) and whether none of them ends with the error
-///   (`quiet`), by what its loop handlers hold, or the line of the first command that stands in the way (`unsteady`, `unquiet`);
-/// - `--summary`: replays it, and writes for each kind of trace lines how many there are;
-/// - `--inspect K`: runs it until its K-th tick ends, and writes each box of the page then with what is seen of it, or `ticks` and the
-///   number of its ticks where it has fewer, or the line of a limit that is met before;
-/// - `--hit K X Y`: the same with the elements that the point hits, the uppermost first, or `miss`;
-/// - `--judge`: replays the script that stands before the source's first line `trace`, and judges the trace that was recorded behind
-///   that line: writes `equal` and the number of lines, or `differs`, the line and how;
-/// - `--pages`: replays the scripts of several pages, whose lines stand in the source in any turn, each behind a line `page NAME`: each
-///   page as if it ran alone. Writes their traces as they are said, each line with the name of its page;
-/// - `--generate N`: writes the script of the number N, which is at most 1,000,000; reads nothing;
-/// - `--generate-run N`: replays the script of the number, and writes its summary; reads nothing.
+/// - no words: replays the script in the rest of the source, and writes its trace;
+/// - `--check`: parses that script, and writes `ok` and the number of its commands, including those in handlers and blocks;
+/// - `--lint`: parses it, and writes whether its resize loops always go deeper (`steady`) and whether none of them ends with
+///   the error (`quiet`), judged by the commands in its loop handlers, or the line of the first command that prevents it
+///   (`unsteady`, `unquiet`);
+/// - `--summary`: replays it, and writes the number of trace lines of each kind;
+/// - `--inspect K`: runs it until its K-th tick ends, and writes each box of the page then with its visible part, or `ticks`
+///   and the number of its ticks if it has fewer, or the line of a limit that is met before;
+/// - `--hit K X Y`: the same with the elements that the point hits, topmost first, or `miss`;
+/// - `--judge`: replays the script before the source's first line `trace`, and judges the trace recorded after that line:
+///   writes `equal` and the number of lines, or `differs`, the line and how;
+/// - `--pages`: replays the scripts of several pages, whose lines are interleaved in the source, each section after a line
+///   `page NAME`: each page as if it ran alone. Writes the lines of their traces as they are produced, each with the name of
+///   its page;
+/// - `--generate N`: writes the script generated from the number N, which is at most 1,000,000; reads nothing;
+/// - `--generate-run N`: replays the script generated from the number, and writes its summary; reads nothing.
 ///
-/// Of a source that is no script, the first six write the line that says where alone; for a judgement that line is the script's
-/// trace. `steps` is handed to whatever computes boxes, clips and findings; no clause here says how far it rises, but that `Usage` leaves it.
+/// If the source isn't a script, the first six write only the line that says where the fault is; for a judgement that line is
+/// the script's trace. `steps` counts the boxes, clips and findings computed; no clause here bounds it, except that `Usage`
+/// leaves it unchanged.
 ///
-/// - `Done`, `Syntax`, `Limit` and `Differs`: exactly by the reply to the words and the source's bytes, and all of its text was written.
-///   A source that was read is at its end then; of more bytes than it may have one more than that many were taken.
-/// - With `--pages` and one of these statuses, each page's lines in what was written are the trace of its script alone, unless one line
-///   refuses the stream.
-/// - `ReadFault` and `WriteFault`: only where that count of faults rose in this call.
-/// - `Usage`: exactly for any other words; nothing is read or written, and no memory is asked for.
+/// - `Done`, `Syntax`, `Limit` and `Differs`: exactly as the reply to the words and the source's bytes says, and all of its
+///   text was written. A source that was read is at its end then; if it has more bytes than it may have, one more than that
+///   many were consumed.
+/// - With `--pages` and one of these statuses, each page's lines in the output are the trace of its script alone, unless the
+///   stream is rejected.
+/// - `ReadFault` and `WriteFault`: only if that fault count rose in this call.
+/// - `Usage`: exactly for any other words; nothing is read, written or allocated.
 pub fn run<S: Source, K: Sink, L: Ledger>(
     alloc: Global,
     words: &[String],
@@ -99,14 +103,14 @@ pub fn run<S: Source, K: Sink, L: Ledger>(
 ) -> Report
     ensures usage { (result.status ≡ Status.Usage) ↔ (asked (map string_bytes words.now) ≡ None) }
     ensures untouched { asked (map string_bytes words.now) ≡ None → (source.new ≡ source.old) × (sink.new ≡ sink.old) }
-    // What the status says of the reply, by the bytes of the source where they are told, and of what was written.
+    // What the status says about the reply, by the bytes of the source if they are known, and about what was written.
     ensures ends { IfSome (asked (map string_bytes words.now)) (λ asks. IfSome (seen asks (S.left source.old)) (λ text.
         Ends result.status (reply asks text) (K.taken sink.old) (K.taken sink.new) (K.faults sink.old) (K.faults sink.new))) }
-    // Of several pages each is as if its script ran alone.
+    // With several pages, each is as if its script ran alone.
     ensures alone { asked (map string_bytes words.now) ≡ Some Words.Pages → IfSome (S.left source.old) (λ text. IsolatesPages result.status text) }
     ensures read { IfSome (asked (map string_bytes words.now)) (λ asks. IfSome (S.left source.old) (λ text. IsTaken result.status (looked_at asks) text (S.left source.new))) }
     ensures unread { IfSome (asked (map string_bytes words.now)) (λ asks. looked_at asks ≡ 0 → source.new ≡ source.old) }
-    // The causes, also where neither tells its bytes.
+    // The causes, even if neither tells its bytes.
     ensures read_fault { result.status ≡ Status.ReadFault → Rose (S.faults source.old) (S.faults source.new) × (sink.new ≡ sink.old) }
     ensures write_fault { result.status ≡ Status.WriteFault → Rose (K.faults sink.old) (K.faults sink.new) }
     ensures page { is_some result.page ≡ (has_page (asked (map string_bytes words.now)) && is_done result.status) }
@@ -129,7 +133,7 @@ pub fn run<S: Source, K: Sink, L: Ledger>(
     }
 }
 
-/// `run`, whose steps nobody counts. Its clauses are those of `run`.
+/// `run` without counting steps. Its clauses are those of `run`.
 pub fn run_uncounted<S: Source, K: Sink, L: Ledger>(
     blank: Blank,
     alloc: Global,
@@ -142,14 +146,14 @@ pub fn run_uncounted<S: Source, K: Sink, L: Ledger>(
     requires one_part { 0 < blank.parts }
     ensures usage { (result.status ≡ Status.Usage) ↔ (asked (map string_bytes words.now) ≡ None) }
     ensures untouched { asked (map string_bytes words.now) ≡ None → (source.new ≡ source.old) × (sink.new ≡ sink.old) }
-    // What the status says of the reply, by the bytes of the source where they are told, and of what was written.
+    // What the status says about the reply, by the bytes of the source if they are known, and about what was written.
     ensures ends { IfSome (asked (map string_bytes words.now)) (λ asks. IfSome (seen asks (S.left source.old)) (λ text.
         Ends result.status (reply asks text) (K.taken sink.old) (K.taken sink.new) (K.faults sink.old) (K.faults sink.new))) }
-    // Of several pages each is as if its script ran alone.
+    // With several pages, each is as if its script ran alone.
     ensures alone { asked (map string_bytes words.now) ≡ Some Words.Pages → IfSome (S.left source.old) (λ text. IsolatesPages result.status text) }
     ensures read { IfSome (asked (map string_bytes words.now)) (λ asks. IfSome (S.left source.old) (λ text. IsTaken result.status (looked_at asks) text (S.left source.new))) }
     ensures unread { IfSome (asked (map string_bytes words.now)) (λ asks. looked_at asks ≡ 0 → source.new ≡ source.old) }
-    // The causes, also where neither tells its bytes.
+    // The causes, even if neither tells its bytes.
     ensures read_fault { result.status ≡ Status.ReadFault → Rose (S.faults source.old) (S.faults source.new) × (sink.new ≡ sink.old) }
     ensures write_fault { result.status ≡ Status.WriteFault → Rose (K.faults sink.old) (K.faults sink.new) }
     ensures page { is_some result.page ≡ (has_page (asked (map string_bytes words.now)) && is_done result.status) }

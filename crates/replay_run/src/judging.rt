@@ -1,4 +1,4 @@
-//! Recorded traces, judged beside the traces of their scripts.
+//! Judging recorded traces by the traces of their scripts.
 
 ghost use Rattle.std.specs.Prelude.{◌≡◌, IfOk, IfSome};
 ghost use Rattle.text_io.specs.Streams.{Rose};
@@ -17,7 +17,7 @@ use text_io::{LimitKind, Sink, Source, TextFault};
 use trace_judge::{Judgement, judge};
 use trace_summary::GatherSink;
 
-// The trace of a script, gathered in memory. The error is want of memory.
+// Returns the trace of a script, collected in memory. Fails only if an allocation fails.
 fn trace_of<L: Ledger>(
     alloc: Global,
     script: ScriptText,
@@ -30,7 +30,7 @@ fn trace_of<L: Ledger>(
     if report.into_status().is_whole() {
         Ok(gathered)
     } else {
-        // In memory a write fails for want of it alone.
+        // A write to memory fails only if an allocation fails.
         Err(AllocError)
     }
 }
@@ -44,7 +44,7 @@ fn status_by(judgement: &Judgement) -> Status
     }
 }
 
-// A recorded trace beside the trace of its script.
+// Judges a recorded trace by the trace of its script.
 fn judge_trace<K: Sink, L: Ledger>(
     alloc: Global,
     script: ScriptText,
@@ -62,7 +62,7 @@ fn judge_trace<K: Sink, L: Ledger>(
     status_of(judgement.write_to(alloc, sink), status_by(&judgement))
 }
 
-// The same with both as they were read.
+// The same, with both as they were read.
 fn judge_recorded<K: Sink, L: Ledger>(
     alloc: Global,
     recorded: RecordedText,
@@ -76,7 +76,7 @@ fn judge_recorded<K: Sink, L: Ledger>(
     judge_trace(alloc, script, &trace, sink, steps)
 }
 
-/// Judges the recorded trace that the source holds behind its script.
+/// Judges the recorded trace that follows the script in the source.
 pub fn judge_source<S: Source, K: Sink, L: Ledger>(
     alloc: Global,
     source: &mut S,

@@ -1,4 +1,4 @@
-//! What a run without words is.
+//! The meaning of a run without words.
 
 ghost use Rattle.std.specs.Prelude.{◌≡◌, ℕ, List, [], Some};
 ghost use Rattle.page_model.specs.Outcome.{outcome, trace};
@@ -8,8 +8,8 @@ ghost use Rattle.run_replies.specs.Words.{asked};
 ghost use Rattle.run_replies.specs.declared.words.Job.TheVariants.{Replay};
 ghost use Rattle.run_replies.specs.declared.words.Words.TheVariants.{Script};
 
-/// No words ask to replay the source, and what `run` writes then is the trace of the text that the source has left: its status is
-/// exactly by how the outcome of that text ends.
+/// Without words the source is replayed, and `run` writes the trace of the text that the source has left; its status is
+/// exactly how the outcome of that text ends.
 pub fn no_words_give_the_trace()
     ensures asked { asked [] ≡ Some (Script Replay) }
     ensures written { (text : List ℕ) → (reply (Script Replay) text).text ≡ trace text }

@@ -1,6 +1,7 @@
-//! Scripts replayed: the text of a script is read from a source, and what its page is told is written to a sink, line by line.
+//! Replays scripts: reads the text of a script from a source, and writes what its page is told to a sink, line by line.
 //!
-//! `run` is the top call. A host hands it any source and sink, and reads the page that it hands out where the script ran to its end.
+//! `run` is the top-level call. A host passes any source and sink, and can read the returned page if the script ran to its
+//! end.
 #![tactic(auto)]
 
 mod call;

@@ -1,4 +1,4 @@
--- Which answer a call gives that enters something. Want of memory comes only where there is room.
+-- The result of a call that adds an observer or an observation. Memory is refused only if there is room.
 use Rattle.std.specs.Prelude.{◌≡◌, Bool, true, false, Result, Ok, Err}
 use Rattle.resize_observer.specs.declared.observers.ObserveFault.{ObserveFault}
 use Rattle.resize_observer.specs.declared.observers.ObserveFault.TheVariants.{Limit, Memory}

@@ -1,4 +1,4 @@
--- What these observers keep true.
+-- The invariants of the resize observers.
 use Rattle.std.specs.Prelude.{◌≡◌, ℕ, ◌≤◌, ◌<◌, ◌^◌, List, All, length, sum_by, nat_eq}
 use Rattle.std.specs.HashSet.{HashSet, contains}
 use Rattle.page_model.specs.World.{ResizeObserver}
@@ -9,8 +9,8 @@ use Rattle.resize_observer.specs.Observations.{HasSize, seen_observations}
 use Rattle.resize_observer.specs.Documents.{Tells}
 use Rattle.resize_observer.specs.Serials.{HasSerials, IsRising}
 
--- one observer: its targets stand in order of their serial numbers, the set holds the elements that they observe, and the
--- two other lists have room for as many observations; no last reported size in any of the three is negative
+-- one observer: its observations are in order of their serial numbers, the set holds exactly the elements that they observe, and
+-- the active and the skipped list have room for as many observations; no last reported size in any of the three lists is negative
 pub record IsKept {S : Type 0} (targets on_active on_skipped : List Observation) (observed : HashSet ℕ S) (active_room skipped_room : ℕ) : Type 0 where
   pub rising : IsRising (seen_observations targets)
   pub elements : (n : ℕ) → contains nat_eq observed n ≡ is_observed n (seen_observations targets)
@@ -20,7 +20,7 @@ pub record IsKept {S : Type 0} (targets on_active on_skipped : List Observation)
   pub active_sizes : All HasSize on_active
   pub skipped_sizes : All HasSize on_skipped
 
--- how many observations stand among the targets of all
+-- the number of observations in the [[observationTargets]] of all these observers
 abbrev pub targets_in : List ResizeObserver → ℕ
 targets_in made = sum_by (λ observer. length (observer.targets)) made
 

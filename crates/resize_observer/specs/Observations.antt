@@ -4,12 +4,12 @@ use Rattle.px_units.specs.declared.Size.{Size}
 use Rattle.page_model.specs.World.{Extent, Observation as ModelObservation}
 use Rattle.resize_observer.specs.declared.observation.Observation.{Observation}
 
--- a size that is never negative
+-- a size that isn't negative
 pub record IsSize (size : Size) : Type 0 where
   pub width : pos 0 ≤ℤ size.width
   pub height : pos 0 ≤ℤ size.height
 
--- so is a last reported one
+-- the last reported size isn't negative
 abbrev pub HasSize : Observation → Type 0
 HasSize it = IsSize it.last
 

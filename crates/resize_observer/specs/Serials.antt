@@ -1,5 +1,5 @@
--- A serial number names one observation for good: whatever list an observation of this number stands in, it observes
--- the same box of the same target.
+-- A serial number identifies one observation permanently: in whichever list an observation with this number is, it observes the
+-- same box of the same target.
 use Rattle.std.specs.Prelude.{◌≡◌, ℕ, ◌<◌, List, All}
 use Rattle.std.specs.List.{AllPairs}
 use Rattle.px_units.specs.declared.BoxKind.{BoxKind}
@@ -13,7 +13,7 @@ pub record Subject : Type 0 where
 abbrev pub subject_of : Observation → Subject
 subject_of it = record { target = it.target; observed = it.observed }
 
--- the observation has one of the numbers given so far, and observes what this number was given to
+-- the observation has a number that was given, and observes the subject that belongs to it
 pub record IsNumbered (subjects : ℕ → Subject) (given : ℕ) (it : Observation) : Type 0 where
   pub below : it.serial < given
   pub subject : subject_of it ≡ subjects it.serial
@@ -27,10 +27,10 @@ pub record HasSerials (given : ℕ) (made : List ResizeObserver) : Type 0 where
   pub subjects : ℕ → Subject
   pub each : All (AreNumbered subjects given) made
 
--- the numbers rise along a list
+-- the serial numbers increase strictly along a list
 abbrev pub IsRising : List Observation → Type 0
 IsRising xs = AllPairs (λ (earlier later : Observation). earlier.serial < later.serial) xs
 
--- a number that is above all of a list
+-- a number that is greater than all serial numbers in a list
 abbrev pub IsAbove : ℕ → List Observation → Type 0
 IsAbove serial xs = All (λ (each : Observation). each.serial < serial) xs

@@ -1,4 +1,4 @@
-//! Where the observers of each document are found.
+//! The observers of each document, indexed by their place.
 
 ghost use Rattle.std.specs.Prelude.{◌≡◌, ◌≤◌, [], ◌∷◌, ◌++◌, List, length, nat_eq, unwrap_or, OnOk, OnErr};
 ghost use Rattle.std.specs.HashMap.{get};
@@ -9,8 +9,8 @@ use element_tree::DocumentId;
 use std::alloc::{AllocError, Global};
 use std::collections::HashMap;
 
-/// How many observers each document has by its number, and by that and a place among its observers the number of the one that
-/// stands there: so that none is looked for in the list of all.
+/// The number of observers of each document, and the observer number at each place among a document's observers, so that the
+/// list of all observers is never scanned.
 #[derive(Drop)]
 pub(crate) struct Documents {
     counts: HashMap<u32, usize>,
@@ -27,14 +27,14 @@ impl Documents {
         }
     }
 
-    /// The number of the document's observer at this place, none past the last.
+    /// Returns the number of the document's observer at this place, `None` past the last.
     pub(crate) fn at(&self, document: DocumentId, place: usize) -> Option<u32>
         ensures { result ≡ get same_key self.now.numbers (document.0, place) }
     {
         self.numbers.get(&(document.0, place)).copied()
     }
 
-    /// Notes the observer that is made next, of this document and with this number.
+    /// Records the observer that is created next, with its document and number.
     pub(crate) fn note(&mut self, document: DocumentId, number: u32) -> Result<(), AllocError>
         requires { unwrap_or (get nat_eq self.old.counts document.0) 0 ≤ number }
         ensures noted { OnOk result ((made : List ResizeObserver) (new : ResizeObserver) → Tells self.old made → length made ≡ number → new.document ≡ document.0 → Tells self.new (made ++ new ∷ [])) }

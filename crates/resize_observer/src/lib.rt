@@ -1,4 +1,4 @@
-//! The resize observers of documents with their lists of observations (Resize Observer, 2 and 3).
+//! The resize observers of a page with their lists of observations (Resize Observer, 2 and 3).
 #![tactic(auto)]
 
 mod documents;

@@ -1,4 +1,4 @@
-//! An observation, and the name of an observer.
+//! Observations, and the ids of observers.
 
 ghost use Rattle.std.specs.Prelude.{◌≡◌, ◌<◌, ◌≤◌, ◌+◌, [], ◌∷◌, ◌++◌, All, not, map, vec_len, vec_capacity};
 ghost use Rattle.page_model.specs.ResizeObserving.{is_observed, without_observed};
@@ -9,24 +9,24 @@ ghost use Rattle.resize_observer.specs.Serials.{IsRising};
 use element_tree::NodeId;
 use px_units::{BoxKind, Size};
 
-/// The name of a resize observer: its number, from 0 in order of making.
+/// The id of a resize observer: its number, from 0 in creation order.
 #[derive(Clone, Copy, PartialEq, Eq, Debug)]
 pub struct ObserverId(pub u32);
 
-/// That an observer observes a target (Resize Observer, 3.1: ResizeObservation).
+/// An observation of a target by an observer (Resize Observer, 3.1: ResizeObservation).
 #[derive(Clone, Copy, PartialEq, Eq, Debug)]
 pub struct Observation {
-    /// The serial number, by which one that is made anew for the same target is told from an older one.
+    /// The serial number, which distinguishes it from earlier and later observations of the same target.
     pub number: u64,
     pub target: NodeId,
-    /// Which box of the target is observed.
+    /// The observed box of the target.
     pub observed: BoxKind,
-    /// The last reported size, in units of 1/64 pixel; 0 by 0 at first. That of an observation which observers hold is never
-    /// negative.
+    /// The last reported size, in units of 1/64 pixel; 0 by 0 at first. Never negative in an observation held by an
+    /// `Observers`.
     pub last: Size,
 }
 
-/// Takes the observation of a target out.
+/// Removes the observation of a target.
 pub(crate) fn remove_target(observations: &mut Vec<Observation>, target: NodeId)
     ensures items { seen_observations observations.new.items ≡ without_observed target.0 (seen_observations observations.old.items) }
     ensures bound { vec_len observations.new ≤ vec_len observations.old }
@@ -36,7 +36,7 @@ pub(crate) fn remove_target(observations: &mut Vec<Observation>, target: NodeId)
     observations.retain(|each| each.target.0 != target.0);
 }
 
-/// Puts an observation last, where there is room for it. If it isn't the first one of its target, that one leaves.
+/// Appends an observation, for which there is capacity. Unless `is_new`, an older one of the same target is removed.
 pub(crate) fn put_last(observations: &mut Vec<Observation>, observation: Observation, is_new: bool)
     requires room { vec_len observations.old < vec_capacity observations.old }
     requires new { is_new ≡ not (is_observed observation.target.0 (seen_observations observations.old.items)) }
@@ -50,7 +50,8 @@ pub(crate) fn put_last(observations: &mut Vec<Observation>, observation: Observa
     observations.push_reserved(observation);
 }
 
-/// Gives the observation of a serial number this last reported size. Serial numbers rise, so that it is found by halves.
+/// Sets the last reported size of the observation with this serial number. Serial numbers are ascending, so it is found by
+/// binary search.
 pub(crate) fn set_last(observations: &mut [Observation], number: u64, last: Size)
     requires rising { IsRising (seen_observations observations.old) }
     requires size { IsSize last }

@@ -18,11 +18,11 @@ use std::marker::Model;
 pub(crate) struct Observer {
     document: DocumentId,
     handler: Option<u32>,
-    // In order of their serial numbers, and beside them the elements that they observe: an observation is searched for by
-    // halves, and an element isn't looked for in the list.
+    // In order of their serial numbers, so that an observation is found by binary search. `observed` holds their elements, so
+    // that the list needn't be scanned for one.
     targets: Vec<Observation>,
     observed: HashSet<u32>,
-    // Each has room for as many observations as there are targets, so that gathering takes no memory.
+    // Each has capacity for as many observations as there are targets, so that gathering doesn't allocate.
     active: Vec<Observation>,
     skipped: Vec<Observation>,
 }
@@ -103,7 +103,7 @@ impl Observer {
         self.observed.contains(&target.0)
     }
 
-    // A new observation, last; an older one of its target leaves the targets.
+    // Appends a new observation; an older one of the same target is removed from the targets.
     pub(crate) fn observe(&mut self, observation: Observation) -> Result<(), AllocError>
         requires above { IsAbove observation.number self.old.targets }
         requires size { HasSize observation }

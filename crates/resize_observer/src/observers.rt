@@ -16,22 +16,22 @@ use std::alloc::Global;
 use std::marker::Model;
 use thiserror::Error;
 
-/// Why a call is refused. A refused call changes nothing.
+/// Why a call failed. A call that fails changes nothing.
 #[derive(Clone, Copy, Debug, PartialEq, Eq, Error)]
 pub enum ObserveFault {
-    /// As many as there may be are there.
-    #[error("as many as there may be are there")]
+    /// The maximum number is already present.
+    #[error("the maximum number is already present")]
     Limit,
-    /// There is no memory.
+    /// Out of memory.
     #[error("out of memory")]
     Memory,
 }
 
-/// The resize observers of a page in order of making, each with its document, its handler and its lists of observations:
-/// the observation targets, the active and the skipped targets (Resize Observer, 3.1). A clause sees them as the
-/// definitions of a world do, with the number of serial numbers given.
+/// The resize observers of a page in creation order, each with its document, its handler and its lists of observations: the
+/// observation targets, the active and the skipped targets (Resize Observer, 3.1). Contracts see them as the definitions of a
+/// world do, with the count of serial numbers given out and the two limits.
 ///
-/// An observer that is handed in is one that these observers made.
+/// Every observer passed in must have been created by this `Observers` (each call `requires` it).
 #[derive(Drop)]
 pub struct Observers {
     made: Vec<Observer>,
@@ -56,8 +56,8 @@ impl Model for Observers {
 }
 
 impl Observers {
-    /// No observers, which take no memory yet. At most `most_observers` can be made, and at most `most_observations`
-    /// targets observed, each once for an observer of it.
+    /// Creates an empty set of observers; allocates nothing. At most `most_observers` can be created, and at most
+    /// `most_observations` targets observed; a target counts once for each observer that observes it.
     pub fn new(alloc: Global, most_observers: u32, most_observations: u32) -> Observers
         ensures { result ≡ record { part = record { given = 0; made = [] }; most_observers = most_observers; most_observations = most_observations } }
     {
@@ -71,24 +71,24 @@ impl Observers {
         }
     }
 
-    /// Whether as many were made as may be, so that `make` answers `Limit`.
+    /// Whether the maximum number was created, so that `make` would return `Limit`.
     pub fn is_full(&self) -> bool
         ensures { result ≡ not (has_room self.now) }
     {
         self.made.len() >= self.most_observers as usize
     }
 
-    /// How many were made.
+    /// Returns how many were created.
     pub fn count(&self) -> u32
         ensures { result ≡ length self.now.part.made }
     {
         self.made.len() as u32
     }
 
-    /// Makes an observer of a document, with the number of its handler if it has one; last in the document's order
-    /// (Resize Observer, 2.1: the constructor).
+    /// Creates an observer for a document, with the number of its handler if it has one; it comes last in the document's
+    /// order (Resize Observer, 2.1: the constructor).
     ///
-    /// `Limit` exactly where `most_observers` were made; else `Memory` where there is none.
+    /// `Limit` exactly when `most_observers` were created; otherwise `Memory` if an allocation fails.
     pub fn make(
         &mut self,
         document: DocumentId,
@@ -114,12 +114,13 @@ impl Observers {
         Ok(ObserverId(number as u32))
     }
 
-    /// Observes a box of a target (Resize Observer, 2.1: `observe`): a target that is there is unobserved first, then a
-    /// new observation with the next serial number and the last reported size 0 by 0 goes to the end of the targets.
+    /// Observes a box of a target (Resize Observer, 2.1: `observe`): a target that is already observed is unobserved first;
+    /// then a new observation with the next serial number and the last reported size 0 by 0 is appended to the targets.
     ///
-    /// It makes room on the active and the skipped list, so that gathering takes no memory. `Limit` exactly where the
-    /// target isn't there and `most_observations` are held; else `Memory` where there is none. Fewer than 2^64 - 1 serial
-    /// numbers were given.
+    /// Reserves capacity in the active and the skipped list, so that gathering doesn't allocate. `Limit` exactly when the
+    /// target isn't observed and `most_observations` are held; otherwise `Memory` if an allocation fails. Requires that fewer
+    /// than 2^64
+    /// - 1 serial numbers have been given out.
     pub fn observe(
         &mut self,
         observer: ObserverId,
@@ -156,7 +157,7 @@ impl Observers {
         Ok(())
     }
 
-    /// Whether a target is there or there is room for one more, so that `observe` doesn't answer `Limit`.
+    /// Whether the target is already observed or the limit allows one more, so that `observe` won't return `Limit`.
     pub fn may_observe(&self, observer: ObserverId, target: NodeId) -> bool
         requires { observer.0 < length self.now.part.made }
         ensures { result ≡ may_observe observer.0 target.0 self.now }
@@ -165,8 +166,8 @@ impl Observers {
             || self.held < self.most_observations as usize
     }
 
-    /// Takes the observation of a target out of the targets alone; nothing where it isn't there (Resize Observer, 2.1:
-    /// `unobserve`).
+    /// Removes the observation of a target from the targets, but not from the active and skipped lists; does nothing if there
+    /// is none (Resize Observer, 2.1: `unobserve`).
     pub fn unobserve(&mut self, observer: ObserverId, target: NodeId)
         requires { observer.0 < length self.old.part.made }
         ensures unobserved { self.new ≡ record self.old { part = without_resize_target observer.0 target.0 (self.old.part) } }
@@ -179,7 +180,7 @@ impl Observers {
         self.held = self.held - before + after;
     }
 
-    /// Clears the targets and the active list (Resize Observer, 2.1: `disconnect`).
+    /// Clears the targets and the active list, but not the skipped list (Resize Observer, 2.1: `disconnect`).
     pub fn disconnect(&mut self, observer: ObserverId)
         requires { observer.0 < length self.old.part.made }
         ensures disconnected { self.new ≡ record self.old { part = without_resize_targets observer.0 (self.old.part) } }
@@ -200,10 +201,10 @@ impl Observers {
         self.made[observer.0 as usize].begin_gather();
     }
 
-    /// Puts a copy of the observation at this place of the targets on the end of the active list, or on that of the
-    /// skipped list where `active` is false.
+    /// Appends a copy of the observation at this index of the targets to the active list, or to the skipped list if `active`
+    /// is false.
     ///
-    /// This list is shorter than the targets, so that there is room for it.
+    /// Requires that this list is shorter than the targets, so that it has capacity.
     pub fn gathered(&mut self, observer: ObserverId, place: usize, active: bool)
         requires observer { observer.0 < length self.old.part.made }
         requires place { place < length (observer_at self.old observer.0).targets }
@@ -214,9 +215,9 @@ impl Observers {
         self.made[observer.0 as usize].gathered(place, active);
     }
 
-    /// The observation of this serial number among the targets, if it is there, gets this last reported size (Resize
-    /// Observer, 3.4: broadcast active observations). One that was made anew for the same target is another. No size is
-    /// negative.
+    /// Sets the last reported size of the target with this serial number, if it is still observed (Resize Observer, 3.4:
+    /// broadcast active observations). An observation created later for the same target has another number and isn't changed.
+    /// Requires that `last` isn't negative.
     pub fn report(&mut self, observer: ObserverId, number: u64, last: Size)
         requires observer { observer.0 < length self.old.part.made }
         requires size { IsSize last }
@@ -235,7 +236,7 @@ impl Observers {
         self.made[observer.0 as usize].clear_active();
     }
 
-    /// The observations in order of the calls of `observe`.
+    /// Returns the observations in order of the calls of `observe`.
     pub fn targets(&self, observer: ObserverId) -> &[Observation]
         requires { observer.0 < length self.now.part.made }
         ensures value { seen_observations result.now ≡ (observer_at self.now observer.0).targets }
@@ -246,7 +247,7 @@ impl Observers {
         self.made[observer.0 as usize].targets()
     }
 
-    /// The active targets.
+    /// Returns the active targets.
     pub fn active(&self, observer: ObserverId) -> &[Observation]
         requires { observer.0 < length self.now.part.made }
         ensures value { seen_observations result.now ≡ (observer_at self.now observer.0).active }
@@ -257,7 +258,7 @@ impl Observers {
         self.made[observer.0 as usize].active()
     }
 
-    /// The skipped targets.
+    /// Returns the skipped targets.
     pub fn skipped(&self, observer: ObserverId) -> &[Observation]
         requires { observer.0 < length self.now.part.made }
         ensures value { seen_observations result.now ≡ (observer_at self.now observer.0).skipped }
@@ -268,7 +269,7 @@ impl Observers {
         self.made[observer.0 as usize].skipped()
     }
 
-    /// The document whose observer this is.
+    /// Returns the document that the observer was created for.
     pub fn document(&self, observer: ObserverId) -> DocumentId
         requires { observer.0 < length self.now.part.made }
         ensures { result.0 ≡ (observer_at self.now observer.0).document }
@@ -276,7 +277,7 @@ impl Observers {
         self.made[observer.0 as usize].document()
     }
 
-    /// The number of the observer's handler, none where it has none.
+    /// Returns the number of the observer's handler, `None` if it has none.
     pub fn handler(&self, observer: ObserverId) -> Option<u32>
         requires { observer.0 < length self.now.part.made }
         ensures { result ≡ (observer_at self.now observer.0).handler }
@@ -284,7 +285,7 @@ impl Observers {
         self.made[observer.0 as usize].handler()
     }
 
-    /// The document's observer at this place in order of making, counted from 0. None exactly past the last.
+    /// Returns the document's observer at this index in creation order, counted from 0; `None` exactly past the last.
     pub fn of_document(&self, document: DocumentId, place: usize) -> Option<ObserverId>
         ensures value { option_map (λ observer. observer.0) result ≡ nth_of self.now document.0 place }
         ensures made { IfSome result (λ observer. observer.0 < length self.now.part.made) }

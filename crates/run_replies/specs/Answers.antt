@@ -1,4 +1,4 @@
--- What each status says of a call, of whose reply all was written, or a first part, or nothing.
+-- What each status says of a call: whether its reply was written whole, in part, or not at all.
 use Rattle.std.specs.Prelude.{◌≡◌, ℕ, List, [], drop, Option, Some}
 use Rattle.std.specs.Io.KnownBytes.{Appends}
 use Rattle.trace_runs.specs.Writes.{AppendsPart, FailsWithin}
@@ -6,7 +6,8 @@ use Rattle.run_replies.specs.Replies.{Reply}
 use Rattle.run_replies.specs.declared.status.Status.{Status}
 use Rattle.run_replies.specs.declared.status.Status.TheVariants.{NoMemory, ReadFault, WriteFault, Usage}
 
--- what each status says of a reply, and of what was written then; a read that failed comes before
+-- what each status says of a reply, and of what was written of it. A read that failed comes before this, and `Usage` doesn't come
+-- up
 abbrev pub Tells : Status → Reply → Option (List ℕ) → Option (List ℕ) → ℕ → ℕ → Type 0
 Tells NoMemory reply before after faults faults_after = AppendsPart before after reply.text
 Tells WriteFault reply before after faults faults_after = FailsWithin before after faults faults_after reply.text
@@ -14,12 +15,12 @@ Tells ReadFault reply before after faults faults_after = ⊥
 Tells Usage reply before after faults faults_after = ⊥
 Tells status reply before after faults faults_after = (reply.status ≡ status) × Appends before after reply.text
 
--- the same of the whole call, where nothing was written after a read that failed
+-- the same for the whole call: after a read that failed, nothing was written
 abbrev pub Ends : Status → Reply → Option (List ℕ) → Option (List ℕ) → ℕ → ℕ → Type 0
 Ends ReadFault reply before after faults faults_after = Appends before after []
 Ends status reply before after faults faults_after = Tells status reply before after faults faults_after
 
--- what was taken of a source of which so many bytes are looked at: these, or all where it has fewer
+-- how many bytes were taken of a source of which at most `most` are looked at: so many, or all if it has fewer
 abbrev pub IsTaken : Status → ℕ → List ℕ → Option (List ℕ) → Type 0
 IsTaken NoMemory most source left = Unit {0}
 IsTaken WriteFault most source left = Unit {0}

@@ -1,5 +1,5 @@
--- What is written of a script's certificates: whether its resize loops always go deeper, and whether none of them ends with the error;
--- where one is withheld, the line of the first command that stands in its way (this project's own).
+-- What is written of a script's certificates: whether its resize loops always go deeper, and whether none of them ends with the
+-- error; if one is withheld, the line of the first command that prevents it (this project's own).
 use Rattle.std.specs.Prelude.{ℕ, List, [], ◌∷◌, ◌++◌, Option, Some, None, slice_get, codes}
 use Rattle.word_model.specs.Numbers.{decimal}
 use Rattle.script_model.specs.Syntax.{Item}

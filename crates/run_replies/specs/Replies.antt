@@ -1,4 +1,4 @@
--- A reply: the text that is written, and the status once it is. All of this is this project's own choice.
+-- A reply: the text that is written, and the status after that. All of this is this project's own choice.
 use Rattle.std.specs.Prelude.{ℕ, List}
 use Rattle.script_model.specs.Reading.{Refusal, refusal_line}
 use Rattle.script_model.specs.TraceText.{line_text}
@@ -14,7 +14,7 @@ pub record Reply : Type 0 where
 abbrev pub done_with : List ℕ → Reply
 done_with text = record { text = text; status = Done }
 
--- a text that is no script, or passes a limit: the line that says where
+-- a text that isn't a script, or exceeds a limit: the line that says where
 abbrev pub refused_with : Refusal → Reply
 refused_with refusal = record { text = line_text (refusal_line refusal); status = status_at (refused_ending refusal) }
 

@@ -1,4 +1,4 @@
--- Exit statuses, and which ending of an outcome each status is.
+-- Exit statuses, and the status for each ending of an outcome.
 use Rattle.std.specs.Prelude.{ℕ, Bool, true, false, Result, Ok, Err}
 use Rattle.trace_runs.specs.declared.faults.RunFault.{RunFault}
 use Rattle.trace_runs.specs.declared.faults.RunFault.TheVariants as fault
@@ -48,7 +48,7 @@ status_of (fault.Limit kind line number) = Limit
 status_of fault.Memory = NoMemory
 status_of fault.WriteFault = WriteFault
 
--- the status where all was written, else that of the fault
+-- this status if all was written, else that of the fault
 abbrev pub status_after : {A : Type 0} → Result A RunFault → Status → Status
 status_after (Ok done) status = status
 status_after (Err fault) status = status_of fault

@@ -24,7 +24,7 @@ unfoldable pub point_of : List ℕ → List ℕ → Option Point
 unfolding signed_of
 point_of left top = option_and_then (λ x. option_map (λ y. record { left = x; top = y }) (signed_of top)) (signed_of left)
 
--- what is told of the page of the source's script as a tick ends
+-- what is shown of the page of the source's script at the end of a tick
 unfoldable pub at_tick : Sight → List ℕ → Option Words
 unfolding tick_of
 at_tick sight word = option_map (λ number. Script (AtTick sight number)) (tick_of word)
@@ -48,21 +48,22 @@ asked (word ∷ number ∷ left ∷ top ∷ []) =
     cond (bytes_eq word (codes "--hit")) (option_and_then (λ at. at_tick (Hits at) number) (point_of left top)) None
 asked (word ∷ number ∷ left ∷ top ∷ other ∷ others) = None
 
--- how many bytes of a source are looked at: one more than it may have, so that a longer one is told; none where a script is generated
+-- how many bytes of a source are looked at: one more than it may have, so that a longer one is noticed; none if a script is
+-- generated
 abbrev pub looked_at : Words → ℕ
 looked_at (Script job) = 16777217
 looked_at (Generated job number) = 0
 looked_at Judge = 67108865
 looked_at Pages = 16777217
 
--- what is seen of a source, where it tells its bytes
+-- the bytes of a source that are looked at, if it tells them; none if a script is generated
 abbrev pub seen : Words → Option (List ℕ) → Option (List ℕ)
 seen (Script job) left = left
 seen (Generated job number) left = Some []
 seen Judge left = left
 seen Pages left = left
 
--- whether a script is run so that there is a page
+-- whether a script is run and its page returned, once the call is done
 abbrev pub is_run : Job → Bool
 is_run Replay = true
 is_run Check = false

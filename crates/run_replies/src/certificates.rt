@@ -1,4 +1,4 @@
-//! The certificates of a script.
+//! The reply with the certificates of a script.
 
 ghost use Rattle.std.specs.Prelude.{◌≡◌, ◌++◌, IfOk, OnOk};
 ghost use Rattle.run_replies.specs.Answers.{Tells};
@@ -13,7 +13,7 @@ use std::alloc::{AllocError, Global};
 use text_io::Sink;
 use word_model::push_decimal;
 
-// The line of one certificate: that it is given, or which line of the script stands in its way.
+// Appends the line of one certificate: that it is given, or which line of the script prevents it.
 fn push_certificate(
     text: &mut Vec<u8>,
     given: &[u8],
@@ -49,8 +49,8 @@ fn certificates_of(alloc: Global, script: &Script) -> Result<Vec<u8>, AllocError
 
 /// Writes the certificates of a script, a line for each.
 ///
-/// `NoMemory` for want of memory, `WriteFault` only where the sink's count of faults rose in this call; a first part of the text was
-/// written then. Else `Done`.
+/// Returns `NoMemory` if an allocation fails, or `WriteFault`, only where the sink's fault count rose in this call; a prefix of the text was
+/// written then. Otherwise `Done`.
 pub fn write_certificates<K: Sink>(alloc: Global, script: &Script, sink: &mut K) -> Status
     ensures { Tells result (done_with (lint_text script.now.items)) (K.taken sink.old) (K.taken sink.new) (K.faults sink.old) (K.faults sink.new) }
 {

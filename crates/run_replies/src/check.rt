@@ -1,4 +1,4 @@
-//! How many commands a script has.
+//! The reply with the number of commands of a script.
 
 ghost use Rattle.std.specs.Prelude.{◌≡◌, ◌^◌, ◌<◌, map, Ok, IfOk};
 ghost use Rattle.script_model.specs.Scripts.{commands_in, block_commands, item_commands, command_count};
@@ -15,7 +15,7 @@ use std::alloc::{AllocError, Global};
 use text_io::Sink;
 use word_model::push_decimal;
 
-// A command, and those of its block.
+// Counts a command and those of its block.
 #[cycle(counting)]
 fn count_command(command: &Command) -> u64
     requires { commands_in (command_of command.now) < 2 ^ 64 }
@@ -28,7 +28,7 @@ fn count_command(command: &Command) -> u64
     }
 }
 
-// The commands of a block, and of the blocks in it.
+// Counts the commands of a block and of the blocks in it.
 #[cycle(counting)]
 fn count_commands(commands: &[Command]) -> u64
     requires { block_commands (block_of commands.now) < 2 ^ 64 }
@@ -63,7 +63,7 @@ fn count_items(items: &[Item]) -> u64
     count
 }
 
-/// How many commands a script has, those of its handlers and blocks included; `each`, `when` and `tick` are commands too.
+/// Returns the number of commands of a script, including those in handlers and blocks; `each`, `when` and `tick` count too.
 pub fn commands_of(script: &Script) -> u64
     ensures { result ≡ command_count script.now.items }
 {
@@ -72,7 +72,7 @@ pub fn commands_of(script: &Script) -> u64
     count_items(script.items())
 }
 
-// The line that says so.
+// Returns the line with their number.
 fn count_line(alloc: Global, script: &Script) -> Result<Vec<u8>, AllocError>
     ensures { IfOk result (λ line. line.items ≡ check_read (Ok script.now)) }
 {
@@ -84,8 +84,8 @@ fn count_line(alloc: Global, script: &Script) -> Result<Vec<u8>, AllocError>
 
 /// Writes `ok` and the number of a script's commands.
 ///
-/// `NoMemory` for want of memory, `WriteFault` only where the sink's count of faults rose in this call; a first part of the text was
-/// written then. Else `Done`.
+/// Returns `NoMemory` if an allocation fails, or `WriteFault`, only where the sink's fault count rose in this call; a prefix of the text was
+/// written then. Otherwise `Done`.
 pub fn write_check<K: Sink>(alloc: Global, script: &Script, sink: &mut K) -> Status
     ensures { Tells result (done_with (check_read (Ok script.now))) (K.taken sink.old) (K.taken sink.new) (K.faults sink.old) (K.faults sink.new) }
 {

@@ -1,7 +1,7 @@
-//! What a command line asks for and what is answered to it: words, jobs, statuses, replies, and those replies that need no page.
+//! The command line and the replies to it: words, jobs, statuses, and those replies that need no page.
 //!
-//! A reply is a text and a status (`specs/Replies.antt`); `Tells` of `specs/Answers.antt` says what each status says of it and of what the
-//! sink took.
+//! A reply is a text and a status (`specs/Replies.antt`); `Tells` of `specs/Answers.antt` defines what each returned status means for the
+//! reply and for what was written to the sink.
 #![tactic(auto)]
 
 mod certificates;

@@ -1,4 +1,4 @@
-//! Texts of lines, written whole.
+//! Writing of texts line by line.
 
 ghost use Rattle.run_replies.specs.Answers.{Tells};
 ghost use Rattle.run_replies.specs.Replies.{done_with};
@@ -7,9 +7,9 @@ use crate::status::Status;
 use text_io::{Sink, write_all};
 use trace_summary::split_line;
 
-/// Writes a text, each of its lines by itself.
+/// Writes a text, passing each of its lines to the sink separately.
 ///
-/// `WriteFault` only where the sink's count of faults rose in this call; a first part of the text was written then. Else `Done`.
+/// Returns `WriteFault` only where the sink's fault count rose in this call; a prefix of the text was written then. Otherwise `Done`.
 pub fn write_lines<K: Sink>(text: &[u8], sink: &mut K) -> Status
     ensures { Tells result (done_with text.now) (K.taken sink.old) (K.taken sink.new) (K.faults sink.old) (K.faults sink.new) }
 {

@@ -1,4 +1,4 @@
-//! Scripts, written.
+//! The reply with a printed script.
 
 ghost use Rattle.script_text.specs.ScriptText.{printed};
 ghost use Rattle.run_replies.specs.Answers.{Tells};
@@ -11,10 +11,10 @@ use script_syntax::Script;
 use std::alloc::Global;
 use text_io::Sink;
 
-/// Writes a script as it is printed, each line by itself.
+/// Writes the printed text of a script, line by line.
 ///
-/// `NoMemory` for want of memory, `WriteFault` only where the sink's count of faults rose in this call; a first part of the text was
-/// written then. Else `Done`.
+/// Returns `NoMemory` if an allocation fails, or `WriteFault`, only where the sink's fault count rose in this call; a prefix of the text was
+/// written then. Otherwise `Done`.
 pub fn write_script<K: Sink>(alloc: Global, script: &Script, sink: &mut K) -> Status
     ensures { Tells result (done_with (printed script.now)) (K.taken sink.old) (K.taken sink.new) (K.faults sink.old) (K.faults sink.new) }
 {

@@ -1,4 +1,4 @@
-//! The lines of limits, and of texts that are no scripts.
+//! The replies for limits, and for texts that aren't scripts.
 
 ghost use Rattle.std.specs.Prelude.{◌≡◌, [], ◌∷◌, false};
 ghost use Rattle.text_io.specs.Limits.{IsCommon};
@@ -15,11 +15,11 @@ use text_io::{LimitKind, Sink};
 use trace_runs::{RunFault, write_one};
 use trace_text::TraceLine;
 
-/// Writes the line of a limit that is met on a line, with how much there may be.
+/// Writes the trace line for a limit that is met on a line of the script; `number` is the value of the limit.
 ///
 /// # Errors
-/// - `WriteFault` only where the sink's count of faults rose in this call, and `Memory` for want of memory; a first part of the line
-///   was written. No other fault comes.
+/// `WriteFault` only where the sink's fault count rose in this call, or `Memory` if an allocation fails; a prefix of the line was
+/// written then. No other fault.
 pub fn write_limit<K: Sink>(
     alloc: Global,
     kind: LimitKind,
@@ -34,10 +34,10 @@ pub fn write_limit<K: Sink>(
     write_one(alloc, &line, sink)
 }
 
-/// Writes the line of a limit that was met while a source was read, one that is the same in each version.
+/// Writes the trace line for a limit that was met while a source was read, which must be one that is the same in every version.
 ///
-/// `Limit`; or `NoMemory` for want of memory, or `WriteFault`, only where the sink's count of faults rose in this call, with a first part of
-/// the line.
+/// Returns `Limit`; or `NoMemory` if an allocation fails, or `WriteFault`, only where the sink's fault count rose in this call, with a prefix
+/// of the line written.
 pub fn meet_limit<K: Sink>(alloc: Global, kind: LimitKind, line: u32, sink: &mut K) -> Status
     requires { IsCommon kind }
     ensures tells { Tells result (refused_with (LimitAt kind line)) (K.taken sink.old) (K.taken sink.new) (K.faults sink.old) (K.faults sink.new) }
@@ -47,10 +47,10 @@ pub fn meet_limit<K: Sink>(alloc: Global, kind: LimitKind, line: u32, sink: &mut
     status_of(wrote, Status::Limit)
 }
 
-/// Writes the line of a text that is no script, by the place of its first fault: a line and a column, each counted from 1.
+/// Writes the trace line for a text that isn't a script, with the position of its first fault: a line and a column, each counted from 1.
 ///
-/// `Syntax`; or `NoMemory` for want of memory, or `WriteFault`, only where the sink's count of faults rose in this call, with a first part of
-/// the line.
+/// Returns `Syntax`; or `NoMemory` if an allocation fails, or `WriteFault`, only where the sink's fault count rose in this call, with a prefix
+/// of the line written.
 pub fn refuse_at<K: Sink>(alloc: Global, line: u32, column: u32, sink: &mut K) -> Status
     ensures tells { Tells result (refused_with (SyntaxAt line column)) (K.taken sink.old) (K.taken sink.new) (K.faults sink.old) (K.faults sink.new) }
     ensures done { is_done result ≡ false }

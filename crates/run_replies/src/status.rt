@@ -1,4 +1,4 @@
-//! How a run ends, and why it ends early.
+//! How a run ended.
 
 ghost use Rattle.std.specs.Prelude.{◌≡◌, false};
 ghost use Rattle.run_replies.specs.Statuses.{code_of, is_done, is_whole, status_after};
@@ -8,26 +8,26 @@ use trace_runs::RunFault;
 /// How a run ended.
 #[derive(Clone, Copy, Debug, PartialEq, Eq)]
 pub enum Status {
-    /// The script was run to its end; the whole text was written.
+    /// The job was carried out to its end; the whole text was written.
     Done,
-    /// The text is no script; the line that says where was written.
+    /// The text isn't a script; the line with the position of its fault was written.
     Syntax,
     /// A limit was met; the text up to its line was written.
     Limit,
-    /// No memory was left; a first part of the text was written.
+    /// Out of memory; a prefix of the text was written.
     NoMemory,
     /// A read failed; nothing was written.
     ReadFault,
-    /// A write failed; a first part of the text was written.
+    /// A write failed; a prefix of the text was written.
     WriteFault,
-    /// The words are none that the program has; nothing was read or written.
+    /// The command line is invalid; nothing was read or written.
     Usage,
     /// The recorded trace isn't that of the script; the judgement was written.
     Differs,
 }
 
 impl Status {
-    /// The exit status of the program.
+    /// Returns the exit status of the program.
     pub fn code(&self) -> u8
         ensures { result ≡ code_of self.now }
     {
@@ -43,7 +43,7 @@ impl Status {
         }
     }
 
-    /// Whether all that was to be written was.
+    /// Whether the whole text was written.
     pub fn is_whole(&self) -> bool
         ensures { result ≡ is_whole self.now }
     {
@@ -54,7 +54,7 @@ impl Status {
     }
 }
 
-/// The status where all was written, else that of the fault.
+/// Returns `status` if everything was written, otherwise the status for the fault.
 pub fn status_of(wrote: Result<(), RunFault>, status: Status) -> Status
     ensures status { result ≡ status_after wrote status }
     ensures done { is_done status ≡ false → is_done result ≡ false }

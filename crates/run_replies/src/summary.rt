@@ -1,4 +1,4 @@
-//! Summaries of traces that were gathered in memory.
+//! The reply with the summary of a trace that was collected in memory.
 
 ghost use Rattle.std.specs.Prelude.{◌≡◌, ◌++◌, List, [], ◌∷◌, false};
 ghost use Rattle.script_model.specs.Summary.{summary_text};
@@ -15,29 +15,29 @@ use trace_runs::{RunFault, write_one};
 use trace_summary::{GatherSink, Summary, a_text_has_one_trace, rows_are_the_summary};
 use trace_text::TraceLine;
 
-/// Writes how many lines of each kind a trace has, by its text: the lines are read back and counted.
+/// Writes how many lines of each kind a trace has, given its text: the lines are read back and counted.
 ///
 /// # Errors
-/// - `WriteFault` only where the sink's count of faults rose in this call, and `Memory` for want of memory; a first part of the summary
-///   was written. No other fault comes of a text of lines.
+/// `WriteFault` only where the sink's fault count rose in this call, or `Memory` if an allocation fails; a prefix of the summary was
+/// written then. No other fault, if the text is that of a trace.
 pub fn write_summary<K: Sink>(alloc: Global, trace: &[u8], sink: &mut K) -> Result<(), RunFault>
     ensures { (lines : List LineModel) → IsTrace trace.now lines →
         Wrote result (K.taken sink.old) (K.taken sink.new) (K.faults sink.old) (K.faults sink.new) (summary_text lines) }
 {
-    // the laws by which the lines that were read are those of the trace
+    // the laws by which the lines read back are those of the trace
     a_text_has_one_trace();
     rows_are_the_summary();
     match Summary::of(trace) {
         Ok(summary) => summary.write_to(alloc, sink),
-        // The text of a trace is of lines, so this doesn't come.
+        // The text of a trace consists of lines, so this can't happen.
         Err(_) => Err(RunFault::Memory),
     }
 }
 
-/// Writes the same of a trace up to a limit, with the limit's line behind it.
+/// Like `write_summary`, for a trace that a limit ended: the line of the limit is appended to the trace and counted too.
 ///
-/// `Limit`; or `NoMemory` for want of memory, or `WriteFault`, only where the sink's count of faults rose in this call, with a first part of
-/// the summary.
+/// Returns `Limit`; or `NoMemory` if an allocation fails, or `WriteFault`, only where the sink's fault count rose in this call, with a prefix
+/// of the summary written.
 pub fn summarize_to_limit<K: Sink>(
     alloc: Global,
     kind: LimitKind,
@@ -53,7 +53,7 @@ pub fn summarize_to_limit<K: Sink>(
     let line = TraceLine::Limit(kind, line, number);
     match write_one(alloc, &line, &mut gathered) {
         Ok(()) => status_of(write_summary(alloc, gathered.taken(), sink), Status::Limit),
-        // In memory a write fails for want of it alone.
+        // Writing to memory fails only if an allocation fails.
         Err(_) => Status::NoMemory,
     }
 }

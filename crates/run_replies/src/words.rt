@@ -1,4 +1,4 @@
-//! The words of the command line.
+//! Parsing of the command line.
 
 ghost use Rattle.std.specs.Prelude.{◌≡◌, ◌∷◌, [], None, bytes_eq, codes, cond, map, option_and_then, option_map, string_bytes};
 ghost use Rattle.run_replies.specs.Words.{asked, at_tick, number_of, point_of, tick_of};
@@ -8,49 +8,49 @@ ghost use Rattle.run_replies.specs.declared.words.Words.TheVariants.{Generated};
 use px_units::Point;
 use word_model::{signed_length, whole};
 
-/// The greatest number of a generated script, and of a tick.
+/// The largest number of a generated script, and of a tick.
 const MOST: u64 = 1_000_000;
 
-/// What is done with a script.
+/// What to do with a script.
 #[derive(Clone, Copy, Debug, PartialEq, Eq)]
 pub enum Job {
-    /// It is run, and its trace is written.
+    /// Run it, and write its trace.
     Replay,
-    /// The number of its commands is written.
+    /// Write the number of its commands.
     Check,
-    /// Its certificates are written.
+    /// Write its certificates.
     Lint,
-    /// It is run, and how many lines of each kind its trace has is written.
+    /// Run it, and write how many lines of each kind its trace has.
     Summary,
-    /// It is written.
+    /// Print it.
     Print,
-    /// It is run until its tick of this number ends, counted from 1, and what is seen of its page then is written.
+    /// Run it to the end of its tick of this number, counted from 1, and write this view of its page then.
     AtTick(Sight, u64),
 }
 
-/// What is seen of a page.
+/// A view of a page.
 #[derive(Clone, Copy, Debug, PartialEq, Eq)]
 pub enum Sight {
-    /// Each box, and how much of it is seen.
+    /// Each box, and how much of it is visible.
     Boxes,
     /// The elements that a point of the viewport of `top` hits.
     Hits(Point),
 }
 
-/// What the words of the command line ask for.
+/// What a command line asks for.
 #[derive(Clone, Copy, Debug, PartialEq, Eq)]
 pub enum Words {
-    /// Something with the script that the source holds.
+    /// A job on the script in the source.
     Script(Job),
-    /// The same with the script that is made from a number.
+    /// A job on the script that is generated from a number.
     Generated(Job, u64),
-    /// A judgement of the recorded trace that the source holds behind its script.
+    /// The judgement of the recorded trace after the script in the source.
     Judge,
-    /// The scripts of several pages that the source holds, side by side.
+    /// A run of the scripts of several pages in the source, side by side.
     Pages,
 }
 
-// A number of at most 1,000,000, without a sign or a leading zero.
+// Parses a number of at most 1,000,000, without a sign or a leading zero.
 #[tactic(auto, unfolding(crate::specs::Words::number_of, word_model::specs::Numbers::at_most))]
 fn number_of(word: &[u8]) -> Option<u64>
     ensures { result ≡ number_of word.now }
@@ -59,7 +59,7 @@ fn number_of(word: &[u8]) -> Option<u64>
     if number <= MOST { Some(number) } else { None }
 }
 
-// The number of a tick, from 1 to 1,000,000.
+// Parses the number of a tick, from 1 to 1,000,000.
 #[tactic(auto, unfolding(crate::specs::Words::tick_of))]
 fn tick_of(word: &[u8]) -> Option<u64>
     ensures { result ≡ tick_of word.now }
@@ -68,7 +68,7 @@ fn tick_of(word: &[u8]) -> Option<u64>
     if number == 0 { None } else { Some(number) }
 }
 
-// A point by its distances from the left and the top, as of 5px or -0.5px.
+// Parses a point, given by its distances from the left and the top, such as 5px or -0.5px.
 #[tactic(auto, unfolding(crate::specs::Words::point_of))]
 fn point_of(left: &[u8], top: &[u8]) -> Option<Point>
     ensures { result ≡ point_of left.now top.now }
@@ -79,10 +79,10 @@ fn point_of(left: &[u8], top: &[u8]) -> Option<Point>
 }
 
 impl Words {
-    /// What these words ask for: no words to replay the script of the source, `--check`, `--lint` and `--summary` to check, to certify or
-    /// to summarize it, `--judge` to judge the trace behind it, `--pages` to run the scripts of its pages, `--inspect K` and `--hit K X Y`
-    /// to tell of its page as its tick of the number K ends, `--generate N` and `--generate-run N` to print or to summarize the script of a
-    /// number. None for any other list of words. No memory.
+    /// Parses the words of a command line: no words to replay the script in the source; `--check`, `--lint` and `--summary` to check,
+    /// certify or summarize it; `--judge` to judge the trace after it; `--pages` to run the scripts of several pages; `--inspect K` and
+    /// `--hit K X Y` to write a view of the page at the end of tick number K; `--generate N` and `--generate-run N` to print or summarize
+    /// the script generated from a number. Returns `None` for any other list of words. Allocates nothing.
     #[tactic(auto, unfolding(crate::specs::Words::asked))]
     pub fn read(words: &[String]) -> Option<Words>
         ensures { result ≡ asked (map string_bytes words.now) }
@@ -133,7 +133,7 @@ impl Words {
         }
     }
 
-    // Something with the script of a number.
+    // A job on the script of a number.
     fn generated(job: Job, number: &[u8]) -> Option<Words>
         ensures { result ≡ option_map (Generated job) (number_of number.now) }
     {
@@ -141,7 +141,7 @@ impl Words {
         Some(Words::Generated(job, number))
     }
 
-    // What is seen as a tick ends.
+    // A view of the page at the end of a tick.
     #[tactic(auto, unfolding(crate::specs::Words::at_tick))]
     fn at_tick(sight: Sight, number: &[u8]) -> Option<Words>
         ensures { result ≡ at_tick sight number.now }
@@ -150,7 +150,7 @@ impl Words {
         Some(Words::Script(Job::AtTick(sight, number)))
     }
 
-    // What a point hits as a tick ends.
+    // The elements that a point hits at the end of a tick.
     fn hit(word: &str, number: &[u8], at: Option<Point>) -> Option<Words>
         ensures { result ≡ cond (bytes_eq word.now (codes "--hit")) (option_and_then (λ at. at_tick (Hits at) number.now) at) None }
     {

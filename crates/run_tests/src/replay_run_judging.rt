@@ -137,26 +137,36 @@ fn sources_without_a_script_are_judged(rt: HostRuntime) -> Result<(), Fail> {
     Ok(())
 }
 
+/// Bytes of a line: more than one may have by the limit `line`, 4,096, and than a piece has.
+const LONG: u32 = 5000;
+
 // A line that may become the one between script and trace is cut by a piece, behind one that is longer than a piece.
 #[test]
 fn a_long_line_is_judged_in_pieces(rt: HostRuntime) -> Result<(), Fail> {
     let mut source = String::new(rt.alloc());
-    for _ in 0..5000 {
+    for _ in 0..LONG {
         source.push('#')?;
     }
     source.push_str("\ntrace\nlimit line 1 4096\n")?;
     see_in_pieces(&rt, rt.alloc(), &source, "equal 1\n")
 }
 
-// The call that would give the end counts too.
+/// A script without commands, with a trace of a line too many, and what is said of it: each byte is one call, and so is the source's end.
+const FAILING: &str = "script 1\ntrace\ntick 0\n";
+
+const FAILING_BYTES: u64 = 22;
+
+const TOLD_BYTES: u64 = 16;
+
 #[test]
 fn a_judgement_ends_with_a_call_that_fails(rt: HostRuntime) -> Result<(), Fail> {
-    let source = "script 1\ntrace\ntick 0\n";
-    for call in 0..23 {
+    let source = FAILING;
+    assert_eq!(&rt; source.len() as u64, FAILING_BYTES);
+    for call in 0..FAILING_BYTES + 1 {
         let streams = in_pieces(1).failing_at(Some(call), None);
         see_judged(&rt, rt.alloc(), source, streams, Status::ReadFault, "")?;
     }
-    for call in 0..16 {
+    for call in 0..TOLD_BYTES {
         let streams = in_pieces(1).failing_at(None, Some(call));
         let told = &"differs 1 extra\n"[..call as usize];
         see_judged(&rt, rt.alloc(), source, streams, Status::WriteFault, told)?;

@@ -1,4 +1,4 @@
-//! Each limit at its number, and one past it.
+//! Each limit at its number of `docs/SCRIPT.md`, and one past it.
 
 use crate::replay_run_scripts::{NUMBERED, Numbered, OBSERVING, Observing};
 use crate::replay_run_tests::{WHOLE, expect};
@@ -7,8 +7,32 @@ use std::alloc::{AllocError, Global};
 use std::process::Abort;
 use std::test::Fail;
 
-// What a script that goes on writes.
+// What a script that goes on writes, which is its last command too.
 const ON: &str = "say on\n";
+
+/// The observations of a kind at one time.
+const MOST_OBSERVED: u32 = 50_000;
+
+const MOST_OBSERVED_BY_SECOND: u32 = 100_000;
+
+/// A third of one more, so that three observers have room for it.
+const BLOCKS: u32 = 16_667;
+
+const BLOCKS_OF_SECOND: u32 = 33_334;
+
+/// Four kinds of events at each of so many blocks are as many listeners as there may be, 4,096.
+const LISTENED: u32 = 1024;
+
+/// The documents, without `top`.
+const MOST_FRAMED: u32 = 63;
+
+const MOST_NESTED: u32 = 16;
+
+/// The bytes of a line.
+const MOST_LINE: u32 = 4096;
+
+/// The bytes of a script.
+const MOST_SCRIPT: u32 = 16_777_216;
 
 // Appends a line so many times, each with its number from 0.
 fn push_numbered(
@@ -33,7 +57,7 @@ fn push_times(text: &mut String, line: &str, count: u32) -> Result<(), AllocErro
 
 // Compares a text that goes on at its end.
 fn expect_on(rt: &impl Abort, alloc: Global, text: &mut String) -> Result<(), Fail> {
-    text.push_str("say on\n")?;
+    text.push_str(ON)?;
     expect(rt, alloc, text, WHOLE, Status::Done, ON)
 }
 
@@ -63,29 +87,29 @@ fn no_more_is_made_than_the_limits(rt: HostRuntime) -> Result<(), Fail> {
     Ok(())
 }
 
-// Three observers, of which each observes all of 16,667 blocks, until there are so many observations.
+// Three observers, of which each observes all blocks, until there are so many observations.
 fn push_observed(text: &mut String, it: &Observing, count: u32) -> Result<(), AllocError> {
     text.push_str("script 1\n")?;
-    push_numbered(text, "block b", " top\n", 16_667)?;
+    push_numbered(text, "block b", " top\n", BLOCKS)?;
     push_numbered(text, it.make, it.made, 3)?;
     for k in 0..count {
-        let (observer, block) = (k / 16_667, k % 16_667);
+        let (observer, block) = (k / BLOCKS, k % BLOCKS);
         write!(text, "{}{observer} b{block}{}", it.observe, it.observed)?;
     }
     Ok(())
 }
 
-// The same in the second version, with 33,334 blocks.
+// The same in the second version.
 fn push_observed_by_second(
     text: &mut String,
     it: &Observing,
     count: u32,
 ) -> Result<(), AllocError> {
     text.push_str("script 2\n")?;
-    push_numbered(text, "block b", " top\n", 33_334)?;
+    push_numbered(text, "block b", " top\n", BLOCKS_OF_SECOND)?;
     push_numbered(text, it.make, it.made, 3)?;
     for k in 0..count {
-        let (observer, block) = (k / 33_334, k % 33_334);
+        let (observer, block) = (k / BLOCKS_OF_SECOND, k % BLOCKS_OF_SECOND);
         write!(text, "{}{observer} b{block}{}", it.observe, it.observed)?;
     }
     Ok(())
@@ -93,19 +117,19 @@ fn push_observed_by_second(
 
 fn see_all_observed(rt: &impl Abort, alloc: Global, it: &Observing) -> Result<(), Fail> {
     let mut text = String::new(alloc);
-    push_observed(&mut text, it, 50_000)?;
+    push_observed(&mut text, it, MOST_OBSERVED)?;
     expect_on(rt, alloc, &mut text)
 }
 
 fn see_too_many_observed(rt: &impl Abort, alloc: Global, it: &Observing) -> Result<(), Fail> {
     let mut text = String::new(alloc);
-    push_observed(&mut text, it, 50_001)?;
+    push_observed(&mut text, it, MOST_OBSERVED + 1)?;
     expect(rt, alloc, &text, WHOLE, Status::Limit, it.told)
 }
 
 fn see_observed_by_second(rt: &impl Abort, alloc: Global, it: &Observing) -> Result<(), Fail> {
     let mut text = String::new(alloc);
-    push_observed_by_second(&mut text, it, 100_001)?;
+    push_observed_by_second(&mut text, it, MOST_OBSERVED_BY_SECOND + 1)?;
     expect(rt, alloc, &text, WHOLE, Status::Limit, it.told_by_second)
 }
 
@@ -126,12 +150,12 @@ fn no_more_is_observed_than_the_limits_of_the_second_version(rt: HostRuntime) ->
     Ok(())
 }
 
-// All kinds of events at 1,024 blocks, and then one line more; there is one block more.
+// All kinds of events at the blocks, and then one line more; there is one block more.
 fn push_listening(text: &mut String, last: &str) -> Result<(), AllocError> {
     text.push_str("script 1\nhandler h\nend\n")?;
-    push_numbered(text, "block b", " top\n", 1025)?;
+    push_numbered(text, "block b", " top\n", LISTENED + 1)?;
     for kind in [" resize h\n", " scroll h\n", " error h\n", " change h\n"] {
-        push_numbered(text, "listen b", kind, 1024)?;
+        push_numbered(text, "listen b", kind, LISTENED)?;
     }
     text.push_str(last)
 }
@@ -167,13 +191,13 @@ fn push_framed(text: &mut String, count: u32) -> Result<(), AllocError> {
 
 fn see_all_framed(rt: &impl Abort, alloc: Global) -> Result<(), Fail> {
     let mut text = String::new(alloc);
-    push_framed(&mut text, 63)?;
+    push_framed(&mut text, MOST_FRAMED)?;
     expect_on(rt, alloc, &mut text)
 }
 
 fn see_too_many_framed(rt: &impl Abort, alloc: Global) -> Result<(), Fail> {
     let mut text = String::new(alloc);
-    push_framed(&mut text, 64)?;
+    push_framed(&mut text, MOST_FRAMED + 1)?;
     let told = "limit documents 65 64\n";
     expect(rt, alloc, &text, WHOLE, Status::Limit, told)
 }
@@ -200,14 +224,20 @@ fn push_around(
 fn see_nested(rt: &impl Abort, alloc: Global) -> Result<(), Fail> {
     let mut text = String::new(alloc);
     let first = "script 1\nblock b top\n";
-    push_around(&mut text, first, "when not attached b\n", 16, "say on\n")?;
-    push_times(&mut text, "end\n", 16)?;
+    push_around(&mut text, first, "when not attached b\n", MOST_NESTED, ON)?;
+    push_times(&mut text, "end\n", MOST_NESTED)?;
     expect(rt, alloc, &text, WHOLE, Status::Done, ON)
 }
 
 fn see_nested_too_deep(rt: &impl Abort, alloc: Global) -> Result<(), Fail> {
     let mut text = String::new(alloc);
-    push_around(&mut text, "script 1\n", "when attached top\n", 17, "")?;
+    push_around(
+        &mut text,
+        "script 1\n",
+        "when attached top\n",
+        MOST_NESTED + 1,
+        "",
+    )?;
     let told = "limit nesting 18 16\n";
     expect(rt, alloc, &text, WHOLE, Status::Limit, told)
 }
@@ -220,13 +250,13 @@ fn blocks_are_nested_up_to_the_limit(rt: HostRuntime) -> Result<(), Fail> {
 
 fn see_longest_line(rt: &impl Abort, alloc: Global) -> Result<(), Fail> {
     let mut text = String::new(alloc);
-    push_around(&mut text, "script 1\n", " ", 4096, "\n")?;
+    push_around(&mut text, "script 1\n", " ", MOST_LINE, "\n")?;
     expect_on(rt, alloc, &mut text)
 }
 
 fn see_line_too_long(rt: &impl Abort, alloc: Global) -> Result<(), Fail> {
     let mut text = String::new(alloc);
-    push_around(&mut text, "script 1\n", " ", 4097, "\n")?;
+    push_around(&mut text, "script 1\n", " ", MOST_LINE + 1, "\n")?;
     let told = "limit line 2 4096\n";
     expect(rt, alloc, &text, WHOLE, Status::Limit, told)
 }
@@ -239,13 +269,14 @@ fn lines_have_bytes_up_to_the_limit(rt: HostRuntime) -> Result<(), Fail> {
 
 fn see_longest_script(rt: &impl Abort, alloc: Global) -> Result<(), Fail> {
     let mut text = String::new(alloc);
-    push_around(&mut text, "script 1\nsay on\n", "\n", 16_777_200, "")?;
+    // 16 bytes, and a line feed for each of the others
+    push_around(&mut text, "script 1\nsay on\n", "\n", MOST_SCRIPT - 16, "")?;
     expect(rt, alloc, &text, WHOLE, Status::Done, ON)
 }
 
 fn see_script_too_long(rt: &impl Abort, alloc: Global) -> Result<(), Fail> {
     let mut text = String::new(alloc);
-    push_times(&mut text, "\n", 16_777_217)?;
+    push_times(&mut text, "\n", MOST_SCRIPT + 1)?;
     let told = "limit script 16777217 16777216\n";
     expect(rt, alloc, &text, WHOLE, Status::Limit, told)
 }

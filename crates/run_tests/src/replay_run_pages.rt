@@ -90,10 +90,13 @@ fn pages_run_side_by_side(rt: HostRuntime) -> Result<(), Fail> {
     Ok(())
 }
 
+/// One more than the bytes that a stream may have, by the limit `script`.
+const TOO_LONG: usize = 16_777_217;
+
 #[test]
 fn a_stream_that_is_too_long_is_refused(rt: HostRuntime) -> Result<(), Fail> {
     let mut text = Vec::from_slice(rt.alloc(), b"page a\nscript 1\n")?;
-    text.resize(16_777_217, b' ')?;
+    text.resize(TOO_LONG, b' ')?;
     let it = run_side_by_side(rt.alloc(), &text)?;
     assert_eq!(&rt; it.status, Status::Limit);
     assert_eq!(&rt; it.sink.taken(), b"limit script 3 16777216\n".as_slice());

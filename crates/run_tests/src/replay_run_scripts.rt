@@ -252,7 +252,7 @@ pub(crate) struct Numbered {
     pub(crate) told: &'static str,
 }
 
-/// A line each for the limits on what a script may make.
+/// A line each for the limits on what a script may make, with their numbers of `docs/SCRIPT.md`.
 pub(crate) const NUMBERED: [Numbered; 9] = [
     Numbered {
         first: "script 1\n",

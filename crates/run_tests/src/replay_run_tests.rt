@@ -20,6 +20,7 @@ pub(crate) struct Streams {
     failing_write: Option<u64>,
 }
 
+/// Each text that isn't made here is read at once, and each line written at once; no trace that isn't made here has more bytes.
 pub(crate) const WHOLE: Streams = Streams {
     piece: 65536,
     room: 1024,
@@ -108,10 +109,14 @@ fn texts_that_are_no_scripts_are_refused(rt: HostRuntime) -> Result<(), Fail> {
     Ok(())
 }
 
-// Blocks in one another, and one more.
+/// The limit `depth` of `docs/SCRIPT.md`.
+const MOST_DEPTH: u32 = 256;
+
+// So many blocks in one another, the first on the lines 2 to 4 and each on three lines, and behind a reading one block more, which is put
+// in on line 772: 1 + 3 * 256 + 1 + 2.
 fn push_chain(text: &mut String) -> Result<(), AllocError> {
     text.push_str("script 1\nblock e1 top\nset e1 width 10000%\nappend top e1\n")?;
-    for k in 1..256u32 {
+    for k in 1..MOST_DEPTH {
         let next = k + 1;
         write!(
             text,
@@ -130,24 +135,43 @@ fn a_chain_is_256_blocks_deep_at_most(rt: HostRuntime) -> Result<(), Fail> {
     expect(&rt, rt.alloc(), &text, WHOLE, Status::Limit, told)
 }
 
-// What the endless script writes: three commands are run in each round, beside the fifteen outside handlers.
+/// The limit `commands` of the first version, as `docs/SCRIPT.md` says.
+const MOST_COMMANDS: u32 = 1_000_000;
+
+/// How many commands of `ENDLESS` stand outside handlers, and how many are run in each of its rounds: two of `ha`, and one of `hb`.
+const OUTSIDE: u32 = 15;
+
+const IN_A_ROUND: u32 = 3;
+
+/// The height of `x` at first, in pixels, and in the round that is cut: a pixel is added in each round. It is the 333,329th, of which one
+/// command is run, since 1,000,000 - 15 is 333,328 times 3, and 1.
+const FIRST_HEIGHT: u32 = 10;
+
+const LAST_HEIGHT: u32 = FIRST_HEIGHT + (MOST_COMMANDS - OUTSIDE) / IN_A_ROUND;
+
+// What the endless script writes: the whole rounds, and the one in which the second command of `ha`, on line 4, is one too many.
 fn push_endless(told: &mut String) -> Result<(), AllocError> {
     told.push_str("tick 0\n")?;
-    for height in 10..333_338u32 {
+    for height in FIRST_HEIGHT..LAST_HEIGHT {
         write!(
             told,
             "resize a x rect 0 0 800 {height} border 800 {height}\nresize b y rect 0 0 0 0 border 0 0\nround top 1\n"
         )?;
     }
-    told.push_str("resize a x rect 0 0 800 333338 border 800 333338\nlimit commands 4 1000000\n")
+    let (last, most) = (LAST_HEIGHT, MOST_COMMANDS);
+    write!(
+        told,
+        "resize a x rect 0 0 800 {last} border 800 {last}\nlimit commands 4 {most}\n"
+    )
 }
 
 #[test]
 fn a_loop_without_end_meets_the_limit_of_commands(rt: HostRuntime) -> Result<(), Fail> {
     let mut told = String::new(rt.alloc());
     push_endless(&mut told)?;
+    // room for these bytes, and for no more
     let streams = Streams {
-        room: 40_000_000,
+        room: told.len(),
         ..WHOLE
     };
     expect(
@@ -177,18 +201,25 @@ fn see_write(rt: &impl Abort, alloc: Global, call: u64) -> Result<(), Fail> {
     Ok(())
 }
 
+/// The lines of the trace of `GROWING`.
+const GROWING_LINES: u64 = 14;
+
 #[test]
 fn a_write_that_fails_ends_the_run(rt: HostRuntime) -> Result<(), Fail> {
-    for call in 0..14 {
+    for call in 0..GROWING_LINES {
         see_write(&rt, rt.alloc(), call)?;
     }
     Ok(())
 }
 
-// The call that would give the end counts too.
+/// The bytes of `PAGE`.
+const PAGE_BYTES: u64 = 75;
+
+// Each byte is one call, and so is the end.
 #[test]
 fn a_read_that_fails_ends_the_run(rt: HostRuntime) -> Result<(), Fail> {
-    for call in 0..76 {
+    assert_eq!(&rt; PAGE.len() as u64, PAGE_BYTES);
+    for call in 0..PAGE_BYTES + 1 {
         let streams = Streams {
             piece: 1,
             failing_read: Some(call),
@@ -201,12 +232,14 @@ fn a_read_that_fails_ends_the_run(rt: HostRuntime) -> Result<(), Fail> {
 
 #[test]
 fn calls_fail_in_pieces_and_behind_the_end(rt: HostRuntime) -> Result<(), Fail> {
+    // nine bytes are written before
     let cut = Streams {
         piece: 1,
         failing_write: Some(9),
         ..WHOLE
     };
     expect(&rt, rt.alloc(), PAGE, cut, Status::WriteFault, "tick 0\nre")?;
+    // two reads give the text and its end, and three writes its three lines
     let behind = Streams {
         failing_read: Some(2),
         failing_write: Some(3),

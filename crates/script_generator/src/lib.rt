@@ -1,5 +1,5 @@
-//! Scripts made from a number: a list of cards whose images are loaded as they come near the viewport, scrolled four times.
-//! They are large inputs of ordinary use, for measurements and for tests.
+//! Generates scripts from a number: a list of cards whose images are loaded as they come near the viewport, which is scrolled
+//! four times. They are large but realistic inputs, for benchmarks and tests.
 #![tactic(auto)]
 
 ghost use Rattle.std.specs.Prelude.{◌≡◌, Ok, IfOk};
@@ -16,12 +16,12 @@ use script_syntax::{Script, parse};
 use std::alloc::{AllocError, Global};
 use templates::text_of;
 
-/// The most bytes of a line.
+/// The most bytes that a line may have.
 const MOST_LINE: usize = 4096;
 
-/// The script of a number. It has `1 + number % 2000` cards, each a block of 100 pixels with an image and a title, and an
-/// intersection observer whose root margin is `200 + 100 * (number / 2000 % 5)` pixels; so there are 10,000 such scripts.
-/// What is printed of it is its text, byte for byte. The error is want of memory.
+/// Generates the script of a number. It has `1 + number % 2000` cards, each a block of 100 pixels with an image and a title, and
+/// an intersection observer whose root margin is `200 + 100 * (number / 2000 % 5)` pixels; so there are 10,000 such scripts.
+/// It prints as the number's text, byte for byte. Fails only if an allocation fails.
 pub fn make(alloc: Global, number: u64) -> Result<Script, AllocError>
     ensures read { IfOk result (λ script. reading (generated number) ≡ Ok script) }
     ensures text { IfOk result (λ script. printed script ≡ generated number) }
@@ -33,7 +33,7 @@ pub fn make(alloc: Global, number: u64) -> Result<Script, AllocError>
     let text = lexer.finish()?;
     match parse(alloc, &text) {
         Ok(script) => Ok(script),
-        // The text is a script, so that nothing but memory can be wanting.
+        // The text is a script, so only an allocation can have failed.
         Err(_) => Err(AllocError),
     }
 }

@@ -7,7 +7,7 @@ ghost use Rattle.script_generator.specs.Filled.{filled};
 use std::alloc::{AllocError, Global};
 use word_model::push_decimal;
 
-// What stands before the cards; `#` is the root margin of the observer in pixels.
+// The text before the cards; `#` is the root margin of the observer in pixels.
 const HEAD: &[u8] = b"script 1
 handler show
 each
@@ -36,7 +36,7 @@ append c# t#
 io-observe lazy g#
 ";
 
-// What stands behind the cards.
+// The text after the cards.
 const TAIL: &[u8] = b"tick 0
 scroll top 0px 1000px
 tick 16
@@ -48,7 +48,7 @@ scroll top 0px 60000px
 tick 64
 ";
 
-// Appends a template, with the number for each `#`.
+// Appends a template, with each `#` replaced by the number.
 fn push_filled(into: &mut Vec<u8>, template: &[u8], number: u64) -> Result<(), AllocError>
     ensures { OnOk result (into.new.items ≡ into.old.items ++ filled number template.now) }
 {
@@ -62,7 +62,7 @@ fn push_filled(into: &mut Vec<u8>, template: &[u8], number: u64) -> Result<(), A
     Ok(())
 }
 
-/// The text of the script of a number.
+/// Returns the text of the script of a number.
 pub fn text_of(alloc: Global, number: u64) -> Result<Vec<u8>, AllocError>
     ensures { IfOk result (λ text. text.items ≡ generated number) }
 {

@@ -1,4 +1,4 @@
-//! The items of a script, run one after another on a page.
+//! Running the items of a script on a page.
 
 ghost use Rattle.std.specs.Prelude.{[], IfOk};
 ghost use Rattle.script_model.specs.Scripts.{handlers_in};
@@ -22,7 +22,7 @@ use step_count::Steps;
 use text_io::Sink;
 use trace_runs::RunFault;
 
-// A command outside handlers. What it throws is caught.
+// Runs a command outside handlers. Its exceptions are caught.
 fn run_caught<K: Sink, L: Ledger>(
     alloc: Global,
     page: &mut Page,
@@ -40,7 +40,8 @@ fn run_caught<K: Sink, L: Ledger>(
     Ok(())
 }
 
-/// Runs one item of a script, and writes each line as it is said. What it throws ends it alone. Refused as `play`.
+/// Runs one item of a script, and writes its lines as they are produced. An exception ends only the item. The errors are
+/// those of `play`.
 pub fn run_item<K: Sink, L: Ledger>(
     alloc: Global,
     page: &mut Page,
@@ -62,13 +63,13 @@ pub fn run_item<K: Sink, L: Ledger>(
     }
 }
 
-/// Runs the items of a script, and writes each line as it is said.
+/// Runs the items of a script, and writes their lines as they are produced.
 ///
 /// # Errors
-/// - `Limit` only where a limit is met, and there unless memory is wanted or the sink fails before; every line up to its own was
-///   written.
-/// - `WriteFault` only where the sink's count of faults rose in this call, and `Memory` for want of memory; a first part of the
-///   lines was written.
+/// - `Limit` only if a limit is met, and always then unless an allocation or the sink fails first; every line up to its own
+///   was written.
+/// - `WriteFault` only if the sink's fault count rose in this call, `Memory` if an allocation fails; a prefix of the lines
+///   was written.
 pub fn play<K: Sink, L: Ledger>(
     alloc: Global,
     page: &mut Page,

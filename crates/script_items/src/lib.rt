@@ -1,4 +1,4 @@
-//! The items of a script, run one after another on a page: one, all, or those up to a tick.
+//! Runs the items of a script on a page: a single one, all, or those up to a tick.
 #![tactic(auto)]
 
 mod items;

@@ -1,4 +1,4 @@
-//! Runs that are broken off as one of their ticks ends.
+//! Runs that stop at the end of one of their ticks.
 
 ghost use Rattle.std.specs.Prelude.{◌≡◌, ◌-◌, ◌≤◌, IfOk};
 ghost use Rattle.script_model.specs.Scripts.{handlers_in};
@@ -19,7 +19,7 @@ use step_count::Steps;
 use text_io::Sink;
 use trace_runs::RunFault;
 
-// 1 for a tick, 0 for any other item.
+// Returns 1 for a tick, 0 for any other item.
 fn ticks_in(item: &Item) -> u64
     ensures value { result ≡ ticks_in (item_of item.now) }
     ensures bound { result ≤ 1 }
@@ -30,8 +30,9 @@ fn ticks_in(item: &Item) -> u64
     }
 }
 
-/// Runs the items of a script until its tick of this number ends, counted from 1, and writes each line as it is said. It answers how
-/// many ticks are lacking: 0 where that tick ended, also where it threw, else by how many the script has fewer. Refused as `play`.
+/// Runs the items of a script until the end of the tick with this number, counted from 1, and writes their lines as they are
+/// produced. Returns the number of ticks that are lacking: 0 if that tick ended, even if it threw, otherwise the number of
+/// ticks that the script has too few. The errors are those of `play`.
 pub fn play_to_tick<K: Sink, L: Ledger>(
     alloc: Global,
     page: &mut Page,

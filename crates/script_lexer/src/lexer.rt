@@ -11,15 +11,15 @@ use crate::text::Text;
 use std::alloc::{AllocError, Global};
 use std::marker::Model;
 
-/// Takes a text in pieces and finds its lines and words as they come. How the text is cut makes no difference: a contract
-/// sees the bytes fed so far as one text, beside the most bytes that a line may have.
+/// Takes a text in pieces and finds its lines and words as they arrive. How the text is split makes no difference: a contract
+/// sees the bytes fed so far as one text, along with the most bytes that a line may have.
 #[derive(Drop)]
 pub struct Lexer {
     bytes: Vec<u8>,
     most_line: usize,
-    // Of all bytes, but for a carriage return at their end, which waits for the byte behind it.
+    // It has scanned all bytes except a carriage return at their end, which waits for the next byte.
     scanner: Scanner,
-    // Behind it no byte is looked at.
+    // No byte after it is looked at.
     fault: Option<LexFault>,
 }
 
@@ -36,7 +36,7 @@ impl Model for Lexer {
 }
 
 impl Lexer {
-    /// Before the first piece, for lines of at most `most_line` bytes before their line feed. Takes no memory.
+    /// Creates a lexer for lines of at most `most_line` bytes before their line feed; allocates nothing.
     pub fn new(alloc: Global, most_line: usize) -> Lexer
         requires { most_line < 2 ^ 32 - 1 }
         ensures { result ≡ record { text = []; most_line = most_line } }
@@ -49,10 +49,10 @@ impl Lexer {
         }
     }
 
-    /// The next piece of the text. Fewer than 2^32 bytes are fed in all.
+    /// Takes the next piece of the text. In all, fewer than 2^32 bytes may be fed.
     ///
     /// # Errors
-    /// Where no memory is left, nothing of the piece is taken.
+    /// If an allocation fails; nothing of the piece is taken then.
     pub fn feed(&mut self, piece: &[u8]) -> Result<(), AllocError>
         requires { length self.old.text + length piece.now < 2 ^ 32 }
         ensures ok { OnOk result (self.new ≡ record self.old { text = self.old.text ++ piece.now }) }
@@ -74,10 +74,10 @@ impl Lexer {
         }
     }
 
-    /// The lines and words of the text that was fed, up to its first fault; behind that no byte is looked at.
+    /// Returns the text that was fed with its lines and words, up to its first fault; no byte after that is looked at.
     ///
     /// # Errors
-    /// Where no memory is left.
+    /// If an allocation fails.
     #[tactic(auto, using(crate::proofs::Limit::script_limit))]
     pub fn finish(self) -> Result<Text, AllocError>
         ensures bytes { IfOk result (λ text. text.bytes ≡ self.text) }

@@ -1,4 +1,4 @@
-//! Lines and words of a script's text, as places in its bytes, and the first fault of its bytes.
+//! An incremental lexer for scripts: lines and words as spans of the text, and the first fault of its bytes.
 #![tactic(auto)]
 
 mod class;

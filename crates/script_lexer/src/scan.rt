@@ -11,21 +11,21 @@ use crate::text::Text;
 use std::alloc::{AllocError, Global};
 use std::marker::Model;
 
-/// The line that is being read.
+/// The line that is being scanned.
 #[derive(Clone, Copy)]
 struct OpenLine {
     // How many lines ended before it.
     ended: u32,
-    // Where it begins.
+    // The offset where it begins.
     start: usize,
-    // The number of its first word.
+    // The index of its first word.
     first: usize,
-    // Where the word begins that is being read.
+    // The offset where the word being scanned begins, if there is one.
     word: Option<usize>,
     in_comment: bool,
 }
 
-/// The places of lines and words so far, and of the line and the word that are being read.
+/// The lines and words found so far, and the line and the word that are being scanned.
 #[derive(Drop)]
 pub struct Scanner {
     lines: Vec<Line>,
@@ -50,7 +50,7 @@ impl Model for Scanner {
 }
 
 impl Scanner {
-    /// Before the first byte.
+    /// Creates a scanner that hasn't looked at any byte; allocates nothing.
     pub fn new(alloc: Global) -> Scanner
         ensures { result ≡ no_places }
     {
@@ -67,7 +67,7 @@ impl Scanner {
         }
     }
 
-    /// The word that is being read ends before this place.
+    /// Ends the word being scanned, if there is one, before this offset.
     fn close_word(&mut self, at: usize) -> Result<(), AllocError>
         ensures closed { OnOk result (self.new ≡ closed at self.old) }
         ensures grown { Grown self.old self.new }
@@ -79,7 +79,7 @@ impl Scanner {
         Ok(())
     }
 
-    /// The line that is being read is kept, if it has a word.
+    /// Records the line being scanned, if it has a word.
     fn keep_line(&mut self) -> Result<(), AllocError>
         requires first { self.old.first ≤ length self.old.words }
         requires number { self.old.first < length self.old.words → self.old.ended + 1 < 2 ^ 32 }
@@ -98,7 +98,7 @@ impl Scanner {
         Ok(())
     }
 
-    /// The line that is being read ends at this place.
+    /// Ends the line being scanned, whose line feed is at this offset, and begins the next one.
     fn end_line(&mut self, at: usize) -> Result<(), AllocError>
         requires first { self.old.first ≤ length self.old.words }
         requires number { self.old.ended + 1 < 2 ^ 32 }
@@ -115,7 +115,8 @@ impl Scanner {
         Ok(())
     }
 
-    /// A byte of a word or of a comment stands at this place. A word that begins with `#` begins a comment.
+    /// Takes the byte at this offset into a word or a comment, beginning one if none is open. A `#` at the start of a word begins
+    /// a comment instead.
     fn word_byte(&mut self, byte: u8, at: usize)
         ensures { self.new ≡ begun byte at self.old }
     {
@@ -144,7 +145,7 @@ impl Scanner {
         }
     }
 
-    /// The byte at this place, which is looked at once.
+    /// Scans the byte at this offset. Each byte is scanned once.
     fn look(
         &mut self,
         bytes: &[u8],
@@ -181,7 +182,7 @@ impl Scanner {
         }
     }
 
-    /// Looks at the bytes from one place up to another, up to the first fault; at none where one was met before.
+    /// Scans the bytes from one offset up to another, up to the first fault; none if there already was a fault.
     fn look_on(
         &mut self,
         bytes: &[u8],
@@ -208,10 +209,10 @@ impl Scanner {
         Ok(None)
     }
 
-    /// Reads what was fed from this place on, up to its first fault.
+    /// Scans what was fed from this offset on, up to its first fault.
     ///
     /// # Errors
-    /// Where no memory is left, all is taken back.
+    /// If an allocation fails; the scanner is then restored to its previous state.
     pub fn read(
         &mut self,
         bytes: &[u8],
@@ -235,7 +236,7 @@ impl Scanner {
         found
     }
 
-    /// The text ends here: a carriage return that waited for the byte behind it is looked at, and the last word and line are closed.
+    /// Ends the text: scans a carriage return that was held back, and closes the last word and line.
     pub fn end(
         &mut self,
         bytes: &[u8],
@@ -255,7 +256,7 @@ impl Scanner {
         Ok(None)
     }
 
-    /// How many lines a text of this size has; where a fault ends it, how many stand before the fault's line.
+    /// Returns the number of lines of a text of this size, or the number of lines before that of the fault, if there is one.
     fn line_count(&self, fault: Option<LexFault>, size: usize) -> u32
         requires start { self.now.start ≤ size }
         requires ended { self.now.ended ≤ self.now.start }
@@ -274,7 +275,7 @@ impl Scanner {
         }
     }
 
-    /// The text that was scanned, with its places.
+    /// Returns the text that was scanned, with its lines and words.
     pub fn into_text(self, bytes: Vec<u8>, fault: Option<LexFault>) -> Text
         requires fit { All (LineFits bytes.items self.words) self.lines }
         requires start { self.start ≤ length bytes.items }
@@ -293,7 +294,7 @@ impl Scanner {
     }
 }
 
-/// Whether a line feed stands at this place.
+/// Whether there is a line feed at this offset.
 #[tactic(auto, using(crate::proofs::Feeds::feed_is, crate::proofs::Feeds::no_feed))]
 fn feed_at(bytes: &[u8], at: usize) -> bool
     ensures { result ≡ begins_with 10 (drop at bytes.now) }
@@ -304,7 +305,7 @@ fn feed_at(bytes: &[u8], at: usize) -> bool
     }
 }
 
-/// How many of these bytes can be judged: a carriage return at the end waits for the byte behind it.
+/// Returns how many of these bytes can be classified: a carriage return at the end depends on the next byte.
 pub fn settled(bytes: &[u8]) -> usize
     ensures { result ≡ settled bytes.now }
 {

@@ -5,8 +5,7 @@ ghost use Rattle.script_lexer.specs.Texts.{LineFits, InLine, line_words};
 use crate::places::{LexFault, Line, Span};
 use std::marker::Model;
 
-/// A text with the places of its lines and words. A contract sees it as these parts; what they stand for is
-/// `text_seen`.
+/// A text with its lines and words, as spans. A contract sees these parts; `text_seen` is what they denote.
 #[derive(Drop)]
 pub struct Text {
     bytes: Vec<u8>,
@@ -35,7 +34,7 @@ impl Model for Text {
 }
 
 impl Text {
-    /// A text of these parts.
+    /// Creates a text from these parts.
     pub(crate) fn new(
         bytes: Vec<u8>,
         lines: Vec<Line>,
@@ -61,15 +60,15 @@ impl Text {
         }
     }
 
-    /// All bytes that were fed, those behind a fault too.
+    /// Returns all bytes that were fed, including those after a fault.
     pub fn bytes(&self) -> &[u8]
         ensures { result.now ≡ self.now.bytes }
     {
         self.bytes.as_slice()
     }
 
-    /// The lines that have a word, in their order, up to a fault's line. The words of each stand between the line's
-    /// start and the text's end.
+    /// Returns the lines that have a word, in order, up to a fault. The words of each lie between the line's start and the
+    /// text's end.
     pub fn lines(&self) -> &[Line]
         ensures value { result.now ≡ self.now.lines }
         ensures fit { All (LineFits self.now.bytes self.now.words) result.now }
@@ -77,7 +76,7 @@ impl Text {
         self.lines.as_slice()
     }
 
-    /// The words of one of the text's lines, from left to right.
+    /// Returns the words of one of the text's lines, from left to right.
     pub fn words(&self, line: &Line) -> &[Span]
         requires { LineFits self.now.bytes self.now.words line.now }
         ensures value { result.now ≡ line_words self.now.words line.now }
@@ -86,15 +85,15 @@ impl Text {
         &self.words[line.first..line.first + line.count]
     }
 
-    /// How many lines the text has; where a fault ends it, how many stand before the fault's line. A last line without
-    /// a line feed counts if it has a byte.
+    /// Returns the number of lines of the text, or the number of lines before that of the fault, if there is one. A last line
+    /// without a line feed counts unless it is empty.
     pub fn line_count(&self) -> u32
         ensures { result ≡ self.now.line_count }
     {
         self.line_count
     }
 
-    /// What ended the text before its end.
+    /// Returns the fault that ended the text early, if there is one.
     pub fn fault(&self) -> Option<LexFault>
         ensures { result ≡ self.now.fault }
     {

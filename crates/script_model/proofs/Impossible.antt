@@ -9,7 +9,7 @@ use Rattle.script_model.specs.Forms.{WholeForm, made, next_of, word_as, none_lef
 use Rattle.script_model.specs.Commands.{Head, ActionHead, TickHead, EachHead, WhenHead, HandlerHead, EndHead, heads_in}
 use Rattle.script_model.specs.Statements.{Ends, permitted, head_of, fresh_name_of, condition_as, handler_as, operands_of, statement_of}
 
-bind_ok : {A B E : Type 0} (r : Result A E) (f : A → Result B E) (y : B) → (r >>= f) ≡ Ok y → (x : A) × (r ≡ Ok x) × (f x ≡ Ok y)
+pub bind_ok : {A B E : Type 0} (r : Result A E) (f : A → Result B E) (y : B) → (r >>= f) ≡ Ok y → (x : A) × (r ≡ Ok x) × (f x ≡ Ok y)
 bind_ok (Ok x) f y h = (x, refl, h)
 bind_ok (Err e) f y h = absurd cc
 

@@ -3,9 +3,9 @@ pub mod Runs
 mod LineWords
 mod LineLaw
 mod LineNumbers
-mod LineEnds
+pub mod LineEnds
 mod Spaces
-mod Impossible
+pub mod Impossible
 mod ReadLater
 mod ReadLaw
 pub mod LimitsMet

@@ -16,7 +16,7 @@ use Rattle.script_model.proofs.Spaces.{commented}
 use Rattle.script_model.proofs.LineNumbers.{read_later}
 
 -- no text after a line feed
-nothing_more : (number : ℕ) → lex_on (line_start number) [] ≡ ends (Whole number)
+pub nothing_more : (number : ℕ) → lex_on (line_start number) [] ≡ ends (Whole number)
 unfolding lex_on line_start add_line line_before close_word word_closed next_line
 nothing_more number = refl
 

@@ -13,7 +13,7 @@ ghost use Rattle.script_model.specs.Shifts.{moved, all_renumbered, reading_later
 ghost use Rattle.script_model.specs.Statements.{Ends, statement_of};
 ghost use Rattle.script_model.specs.Reading.{LimitAt, last_line, read_lexed, reading};
 
-/// A line feed ends a line, whose words are its longest runs of word bytes up to a comment.
+/// A line feed ends a line, whose words are its maximal runs of word bytes before a comment.
 #[tactic(auto, using(crate::proofs::LineLaw::line_is_read))]
 pub fn line_feed_ends_a_line()
     ensures { (number : ℕ) (line rest : List ℕ) → list_all is_line_byte line ≡ true → length line ≤ common_limit limits.Line →
@@ -21,7 +21,7 @@ pub fn line_feed_ends_a_line()
         line_with (words_of line) number line (lex_on (line_start (number + 1)) rest) }
 {}
 
-/// A carriage return directly before the line feed belongs to no word; it is one of the line's bytes.
+/// A carriage return directly before the line feed belongs to no word, but is one of the line's bytes.
 #[tactic(auto, using(crate::proofs::LineLaw::line_is_read_returned))]
 pub fn carriage_return_before_a_line_feed()
     ensures { (number : ℕ) (line rest : List ℕ) → list_all is_line_byte line ≡ true → length line < common_limit limits.Line →
@@ -29,14 +29,14 @@ pub fn carriage_return_before_a_line_feed()
         line_with (words_of line) number line (lex_on (line_start (number + 1)) rest) }
 {}
 
-/// A last line without a line feed is read as with one, if it has a byte.
+/// A non-empty last line without a line feed is read as if it had one.
 #[tactic(auto, using(crate::proofs::LineEnds::last_line_is_read))]
 pub fn last_line_needs_no_line_feed()
     ensures { (number : ℕ) (line : List ℕ) → list_all is_line_byte line ≡ true → length line ≤ common_limit limits.Line → 0 < length line →
         lex_on (line_start number) line ≡ lex_on (line_start number) (line ++ (10 ∷ [])) }
 {}
 
-/// The first byte that no line may have ends the reading at its column.
+/// The first byte that isn't allowed in a line ends the reading at its column.
 #[tactic(auto, using(crate::proofs::LineEnds::bad_byte_ends))]
 pub fn bad_byte_ends_the_text()
     ensures { (number : ℕ) (line : List ℕ) (byte : ℕ) (rest : List ℕ) → list_all is_line_byte line ≡ true → length line < common_limit limits.Line →
@@ -44,7 +44,7 @@ pub fn bad_byte_ends_the_text()
         lex_on (line_start number) (line ++ (byte ∷ rest)) ≡ ends (BadByte number (length line + 1)) }
 {}
 
-/// One byte more than a line may have ends the reading, whatever it is.
+/// The first byte beyond the limit of a line ends the reading, whatever byte it is.
 #[tactic(auto, using(crate::proofs::LineEnds::long_line_ends))]
 pub fn long_line_ends_the_text()
     ensures { (number : ℕ) (line : List ℕ) (byte : ℕ) (rest : List ℕ) → list_all is_line_byte line ≡ true → length line ≡ common_limit limits.Line →
@@ -65,21 +65,21 @@ pub fn comment_changes_nothing()
         lex_on (line_start number) ((line ++ (32 ∷ 35 ∷ comment)) ++ (10 ∷ rest)) ≡ lex_on (line_start number) (line ++ (10 ∷ rest)) }
 {}
 
-/// From a later line on, a text has the same lines with later numbers.
+/// If its first line has a later number, a text has the same lines, with their numbers shifted accordingly.
 #[tactic(auto, using(crate::proofs::LineNumbers::read_later))]
 pub fn later_lines_are_renumbered()
     ensures { (number lines : ℕ) (text : List ℕ) → lex_on (line_start (number + lines)) text ≡ all_renumbered lines (lex_on (line_start number) text) }
 {}
 
-/// A first line without words changes nothing but the numbers of later lines: the script has the same items, and a
-/// refusal is the same one.
+/// A first line without words changes nothing but the numbers of later lines: the script has the same items, or the fault
+/// or limit is the same.
 #[tactic(auto, using(crate::proofs::ReadLaw::wordless_is_read))]
 pub fn line_without_words_is_passed_over()
     ensures { (line rest : List ℕ) → list_all is_line_byte line ≡ true → length line ≤ common_limit limits.Line → words_of line ≡ [] →
         length (line ++ (10 ∷ rest)) ≤ common_limit limits.Script → reading (line ++ (10 ∷ rest)) ≡ reading_later 1 (reading rest) }
 {}
 
-/// The limit of a script's bytes comes before any line is looked at.
+/// The limit of a script's bytes is checked before any line is looked at.
 #[tactic(auto, using(crate::proofs::ReadLaw::too_long, crate::proofs::ReadLaw::within))]
 pub fn script_limit_comes_first()
     ensures above { (text : List ℕ) → common_limit limits.Script < length text →
@@ -87,13 +87,13 @@ pub fn script_limit_comes_first()
     ensures within { (text : List ℕ) → length text ≤ common_limit limits.Script → reading text ≡ read_lexed (lexed text) }
 {}
 
-/// A limit that a text meets is the same in each version, so that it is known before the version is.
+/// A limit that a text can meet is the same in every version, so it is known before the version is.
 #[tactic(auto, using(crate::proofs::LimitsMet::met_is_common))]
 pub fn text_meets_common_limits()
     ensures { (text : List ℕ) (kind : LimitKind) (line : ℕ) → reading text ≡ Err (LimitAt kind line) → IsCommon kind }
 {}
 
-/// A line `end` is read only where something is open, so there is always something that it closes.
+/// An `end` line is accepted only where something is open, so it always closes something.
 #[tactic(auto, using(crate::proofs::Impossible::no_end_outside))]
 pub fn end_closes_something()
     ensures { (version : Version) (names : List (List ℕ)) (row : Row) →

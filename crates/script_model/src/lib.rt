@@ -1,4 +1,4 @@
-//! The script's language and the trace's: definitions in `specs/`, and here their laws and what they give at chosen texts.
+//! The languages of scripts and traces: the definitions are in `specs/`, their laws and worked examples here.
 #![tactic(auto)]
 
 pub mod laws;

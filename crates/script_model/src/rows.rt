@@ -1,4 +1,4 @@
-//! What the reading gives at chosen texts. Each function has an empty body; its clause is computed.
+//! Worked examples: what chosen texts are read as. Each function has an empty body; the checker computes its clause.
 #![tactic(auto, unfolding(crate::specs::Reading::reading))]
 
 ghost use Rattle.std.specs.Prelude.{◌≡◌, ◌++◌, [], ◌∷◌, Ok, Err, Some, None, true, pos, negsuc, replicate, codes};
@@ -11,43 +11,43 @@ ghost use Rattle.text_io.specs.declared.kinds.Version.TheVariants.{First, Second
 ghost use Rattle.script_model.specs.Reading.{SyntaxAt, LimitAt, HandlerBlock, nothing_read, opened, open_handler, reading};
 ghost use Rattle.script_model.specs.Syntax.{Tick, Handler, Outside, Then, NoMore, Simple, Each, When, Say, Seen, Named, SetRatio, SetStyle, ObserveResize, MakeIntersectionObserver};
 
-/// A text without a byte lacks its first line.
+/// An empty text lacks its first line.
 pub fn empty_text()
     ensures { reading [] ≡ Err (SyntaxAt 1 1) }
 {}
 
-/// A text without words has its fault on the line after the last one.
+/// The fault of a text without words is on the line after the last one.
 pub fn comments_alone()
     ensures { reading (codes "# note\n\n") ≡ Err (SyntaxAt 3 1) }
 {}
 
-/// A last line without a line feed is a line.
+/// A last line without a line feed counts as a line.
 pub fn no_line_feed_at_the_end()
     ensures first { reading (codes "script 1") ≡ Ok (record { version = First; items = [] }) }
     ensures second { reading (codes "script 2") ≡ Ok (record { version = Second; items = [] }) }
 {}
 
-/// The first line is cut after its first word.
+/// The first line ends after its first word.
 pub fn cut_first_line()
     ensures { reading (codes "script") ≡ Err (SyntaxAt 1 7) }
 {}
 
-/// Another version is a fault at the second word.
+/// An unknown version is a fault at the second word.
 pub fn other_version()
     ensures { reading (codes "script 3\n") ≡ Err (SyntaxAt 1 8) }
 {}
 
-/// A word too many is a fault at it.
+/// A surplus word is a fault at that word.
 pub fn first_line_with_a_word_too_many()
     ensures { reading (codes "script 1 2\n") ≡ Err (SyntaxAt 1 10) }
 {}
 
-/// Another first word is a fault at it.
+/// A wrong first word is a fault at that word.
 pub fn other_first_word()
     ensures { reading (codes "\n  tick 0\n") ≡ Err (SyntaxAt 2 3) }
 {}
 
-/// The first line stands once.
+/// The version line appears only once.
 pub fn first_line_again()
     ensures { reading (codes "script 1\nscript 1\n") ≡ Err (SyntaxAt 2 1) }
 {}
@@ -57,17 +57,17 @@ pub fn length_without_unit()
     ensures { reading (codes "script 1\nwhen wider a 5\n") ≡ Err (SyntaxAt 2 14) }
 {}
 
-/// A media query's fault is at a column of the line.
+/// The fault of a media query is reported at a column of the line.
 pub fn query_without_unit()
     ensures { reading (codes "script 1\nmedia m top (width: 5)\n") ≡ Err (SyntaxAt 2 22) }
 {}
 
-/// Where a query is cut, the fault is one past its end, whatever comment follows.
+/// Where a query is incomplete, the fault is one past its end, even if a comment follows.
 pub fn cut_query()
     ensures { reading (codes "script 1\nmedia m top not  # all\n") ≡ Err (SyntaxAt 2 16) }
 {}
 
-/// A property that no style has is a fault at its word.
+/// An unknown property is a fault at its word.
 pub fn unknown_property()
     ensures { reading (codes "script 1\nset a colour red\n") ≡ Err (SyntaxAt 2 7) }
 {}
@@ -77,37 +77,37 @@ pub fn value_of_another_property()
     ensures { reading (codes "script 1\nset a min-width auto\n") ≡ Err (SyntaxAt 2 17) }
 {}
 
-/// Handlers have no ticks.
+/// A `tick` can't appear in a handler.
 pub fn tick_in_a_handler()
     ensures { reading (codes "script 1\nhandler h\ntick 0\nend\n") ≡ Err (SyntaxAt 3 1) }
 {}
 
-/// A handler stands outside blocks.
+/// A handler can't appear in a block.
 pub fn handler_in_a_block()
     ensures { reading (codes "script 1\neach\nhandler h\nend\nend\n") ≡ Err (SyntaxAt 3 1) }
 {}
 
-/// Where something is open at the end, the fault is on the line after the last one.
+/// If something is still open at the end, the fault is on the line after the last one.
 pub fn open_at_the_end()
     ensures { reading (codes "script 1\nhandler h\n") ≡ Err (SyntaxAt 3 1) }
 {}
 
-/// An end closes something.
+/// An `end` must close something.
 pub fn end_with_nothing_open()
     ensures { reading (codes "script 1\nend x\n") ≡ Err (SyntaxAt 2 1) }
 {}
 
-/// A word behind an end is a fault at it.
+/// A word after `end` is a fault at that word.
 pub fn end_with_a_word_too_many()
     ensures { reading (codes "script 1\neach\nend x\n") ≡ Err (SyntaxAt 3 5) }
 {}
 
-/// A handler's name stands once.
+/// No two handlers have the same name.
 pub fn handler_name_again()
     ensures { reading (codes "script 1\nhandler h\nend\nhandler h\nend\n") ≡ Err (SyntaxAt 4 9) }
 {}
 
-/// A second `not` is a fault at it.
+/// A second `not` is a fault.
 pub fn not_twice()
     ensures { reading (codes "script 1\nwhen not not seen\nend\n") ≡ Err (SyntaxAt 2 10) }
 {}
@@ -117,12 +117,12 @@ pub fn cut_command()
     ensures { reading (codes "script 1\nblock r top\nappend top r\nro o top -\nro-observe o") ≡ Err (SyntaxAt 5 13) }
 {}
 
-/// A comment is no word, and bytes before it don't count.
+/// A comment isn't a word: the fault is at the column after the last word, not after the bytes before the comment.
 pub fn missing_word_before_a_comment()
     ensures { reading (codes "script 1\nsay  # hello\n") ≡ Err (SyntaxAt 2 4) }
 {}
 
-/// A margin goes up to the word `threshold`.
+/// A margin extends up to the word `threshold`.
 pub fn threshold_is_missing()
     ensures { reading (codes "script 1\nio i top - root - margin 1px 0\n") ≡ Err (SyntaxAt 2 31) }
 {}
@@ -132,7 +132,7 @@ pub fn bad_threshold()
     ensures { reading (codes "script 1\nio i top - root - margin threshold 0 1 x\n") ≡ Err (SyntaxAt 2 40) }
 {}
 
-/// Only observers may go without a handler.
+/// Only observers may have no handler.
 pub fn dash_for_a_handler()
     ensures { reading (codes "script 1\npost top -\n") ≡ Err (SyntaxAt 2 10) }
 {}
@@ -147,17 +147,17 @@ pub fn return_at_the_end()
     ensures { reading (codes "script 1\r") ≡ Err (SyntaxAt 1 9) }
 {}
 
-/// Of two carriage returns the first is a bad byte.
+/// The first of two carriage returns is a bad byte.
 pub fn two_returns()
     ensures { reading (codes "script 1\r\r\n") ≡ Err (SyntaxAt 1 9) }
 {}
 
-/// Comments have no other bytes than lines do, and bytes come before words.
+/// The same bytes are allowed in comments as elsewhere, and faults of bytes come before those of words.
 pub fn bad_byte_in_a_comment()
     ensures { reading (codes "scrip 1 # " ++ (128 ∷ [])) ≡ Err (SyntaxAt 1 11) }
 {}
 
-/// An earlier line comes first.
+/// The fault of an earlier line comes first.
 pub fn bad_byte_behind_a_fault()
     ensures { reading (codes "script 1\nsay 5\n" ++ (0 ∷ [])) ≡ Err (SyntaxAt 2 5) }
 {}
@@ -167,12 +167,12 @@ pub fn longest_line()
     ensures { reading (codes "script 1" ++ replicate 4088 32) ≡ Ok (record { version = First; items = [] }) }
 {}
 
-/// The next byte is the limit, whatever it is, and its words aren't looked at.
+/// One byte more meets the limit, whatever byte it is, and the line's words aren't looked at.
 pub fn line_too_long()
     ensures { reading (codes "scrip 1" ++ replicate 4089 32 ++ (0 ∷ [])) ≡ Err (LimitAt limits.Line 1) }
 {}
 
-/// A handler isn't a block, so 16 blocks may be open in it; the fault is the missing end.
+/// A handler isn't a block, so 16 blocks may be open in it; the fault is the missing `end`.
 pub fn deepest_block()
     ensures { reading (codes "script 1\nhandler h\n" ++ concat (replicate 16 (codes "each\n"))) ≡ Err (SyntaxAt 19 1) }
 {}
@@ -190,12 +190,12 @@ pub fn one_handler_too_many()
     ensures next { open_handler 8195 (codes "h") (record (nothing_read First) { names = replicate 4096 [] }) ≡ Err (LimitAt limits.Handlers 8195) }
 {}
 
-/// A fault of the same line comes before the limit.
+/// A fault on the same line comes before the limit.
 pub fn fault_before_the_limit()
     ensures { reading (codes "script 1\n" ++ concat (replicate 16 (codes "each\n")) ++ codes "each x\n") ≡ Err (SyntaxAt 18 6) }
 {}
 
-/// Handlers and blocks hold the commands up to their end, with the lines of both.
+/// Handlers and blocks contain the commands up to their `end`, and have the line numbers of both.
 pub fn nested_blocks()
     ensures { reading (codes "script 1\nhandler h\neach\nwhen not seen\nsay a\nend\nend\nsay b\nend\nsay c\n") ≡
         Ok (record {
@@ -243,7 +243,7 @@ pub fn observer_line()
         }) }
 {}
 
-/// What the second version has more, in its own scripts.
+/// What only the second version has, in scripts of that version.
 pub fn second_version()
     ensures ratio { reading (codes "script 2\nratio 150%\n") ≡
         Ok (record { version = Second; items = Outside (Simple 2 (SetRatio 15000)) ∷ [] }) }
@@ -287,7 +287,7 @@ pub fn second_version()
         }) }
 {}
 
-/// Its words with other operands are faults at these.
+/// The words of the second version with wrong operands are faults at these operands.
 pub fn second_version_faults()
     ensures ratio_with_a_sign { reading (codes "script 2\nratio -1%\n") ≡ Err (SyntaxAt 2 7) }
     ensures ratio_with_another_unit { reading (codes "script 2\nratio 1px\n") ≡ Err (SyntaxAt 2 7) }
@@ -297,7 +297,7 @@ pub fn second_version_faults()
     ensures scroll_twice { reading (codes "script 2\nio i top - root - margin scroll 1px scroll threshold\n") ≡ Err (SyntaxAt 2 37) }
 {}
 
-/// A script of the first version has none of it. There `scroll` is a word of the margin.
+/// None of it is in scripts of the first version. There `scroll` is a word of the margin.
 pub fn second_version_in_the_first()
     ensures ratio { reading (codes "script 1\nratio 150%\n") ≡ Err (SyntaxAt 2 1) }
     ensures device { reading (codes "script 1\nro-observe o r device\n") ≡ Err (SyntaxAt 2 16) }
@@ -321,8 +321,8 @@ pub fn second_version_in_the_first()
         }) }
 {}
 
-/// A property that the first version hasn't is a fault at its word there, whatever its value; the second version has it, and its value
-/// may be negative.
+/// A property that only the second version has is a fault at its word in the first, whatever its value; in the second its value may be
+/// negative.
 pub fn positioned_properties()
     ensures in_the_first { reading (codes "script 1\nset r position absolute\n") ≡ Err (SyntaxAt 2 7) }
     ensures with_a_bad_value { reading (codes "script 1\nset r top 1\n") ≡ Err (SyntaxAt 2 7) }

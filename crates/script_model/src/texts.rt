@@ -1,5 +1,5 @@
-//! What media queries, margins, trace lines and generated scripts are at chosen values. Each function has an empty body; its
-//! clauses are computed.
+//! Worked examples of media queries, margins, trace lines and generated scripts. Each function has an empty body; the checker
+//! computes its clauses.
 #![tactic(auto, unfolding(crate::specs::Media::query_list, crate::specs::Media::matches, crate::specs::MarginText::margins_of, crate::specs::MarginText::thresholds_of, crate::specs::TraceText::line_text, crate::specs::Summary::summary_text, crate::specs::Generator::head_lines, crate::specs::Generator::card_lines, crate::specs::Generator::generated_lines, crate::specs::Reading::reading, crate::specs::Scripts::command_count, crate::specs::Scripts::handler_number))]
 
 ghost use Rattle.std.specs.Prelude.{◌≡◌, true, false, [], ◌∷◌, ◌++◌, Ok, Err, Some, None, IsOkAnd, pos, negsuc, length, slice_get, codes};
@@ -16,7 +16,7 @@ ghost use Rattle.script_model.specs.Generator.{root_margin, head_lines, card_lin
 ghost use Rattle.script_model.specs.Reading.{refusal_line, SyntaxAt, LimitAt, reading};
 ghost use Rattle.script_model.specs.Scripts.{command_count, handler_number};
 
-/// A list is read with all its features; spaces are free around commas and in parentheses.
+/// A list is read with all its features; spaces are optional around commas and inside parentheses.
 pub fn media_query_list()
     ensures any { query_list (codes "only screen and ( min-width:\t600.5px ) ,not (orientation: portrait)") ≡
         Ok (
@@ -26,8 +26,8 @@ pub fn media_query_list()
         AnyFeatures (WidthFeature Exactly 64) (HeightFeature AtMost 128) (HeightFeature Exactly 192 ∷ []) ∷ []) }
 {}
 
-/// A fault is at the first byte with which the text so far begins no list, or one past the end of a text that begins a
-/// longer one.
+/// A fault is at the first byte with which the text is no longer the beginning of a list, or one past the end of a text that
+/// is only the beginning of one.
 pub fn media_query_columns()
     ensures other_word { query_list (codes "screem") ≡ Err 6 }
     ensures cut_word { query_list (codes "scre") ≡ Err 5 }
@@ -41,7 +41,7 @@ pub fn media_query_columns()
     ensures nothing { query_list [] ≡ Err 1 }
 {}
 
-/// `not` turns a query round, `print` doesn't match, and a square viewport is portrait. Sizes are in units.
+/// `not` negates a query, `print` doesn't match, and a square viewport is portrait. Sizes are in units of 1/64 CSS pixel.
 pub fn media_query_matches()
     ensures square { IsOkAnd (query_list (codes "(orientation: portrait)")) (λ queries. matches queries 640 640 ≡ true) }
     ensures wide { IsOkAnd (query_list (codes "(orientation: portrait)")) (λ queries. matches queries 641 640 ≡ false) }
@@ -50,7 +50,7 @@ pub fn media_query_matches()
     ensures print { IsOkAnd (query_list (codes "print")) (λ queries. matches queries 640 0 ≡ false) }
 {}
 
-/// Margins are completed as in CSS, and each part has a unit.
+/// Omitted sides of a margin are filled in as in CSS, and each part has a unit.
 pub fn margin_texts()
     ensures nothing { margins_of [] ≡
         Some (record {
@@ -70,7 +70,7 @@ pub fn margin_texts()
     ensures five { margins_of (codes "1px 1px 1px 1px 1px") ≡ None }
 {}
 
-/// Thresholds are sorted, equal ones are kept, and none is a single 0.
+/// Thresholds are sorted, duplicates are kept, and an empty list becomes a single 0.
 pub fn threshold_lists()
     ensures nothing { thresholds_of [] ≡ Some (0 ∷ []) }
     ensures sorted { thresholds_of (pos 10000 ∷ pos 0 ∷ pos 5000 ∷ pos 0 ∷ []) ≡ Some (0 ∷ 0 ∷ 5000 ∷ 10000 ∷ []) }
@@ -118,7 +118,7 @@ pub fn trace_lines()
     ensures limit { line_text (refusal_line (LimitAt limits.Line 2)) ≡ codes "limit line 2 4096\n" }
 {}
 
-/// A summary has a line for each kind, in the order of the kinds.
+/// A summary has one line per kind of trace line, in the order of the kinds.
 pub fn summaries()
     ensures { summary_text (TickLine 0 ∷ TickLine 16 ∷ LimitLine limits.Depth 772 256 ∷ []) ≡
         codes "tick 2\ntimer 0\nframe 0\ntask 0\nevent 0\nresize 0\nround 0\nintersect 0\ntake 0\nsay 0\nread 0\nthrow 0\nlimit 1\nsyntax 0\n" }

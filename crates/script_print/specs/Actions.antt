@@ -5,6 +5,6 @@ use Rattle.script_syntax.specs.declared.commands.Action.{Action}
 use Rattle.script_text.specs.Phrases.{action_words}
 use Rattle.script_text.specs.ScriptText.{line_text}
 
--- behind what was there before stands the command's line too, where there was memory
+-- if there was memory, the command's line was appended to what was there before
 unfoldable pub Prints : {A E : Type 0} → Result A E → List ℕ → List ℕ → Action → Type 0
 Prints result old new action = OnOk result (new ≡ old ++ line_text (action_words (action_of action)))

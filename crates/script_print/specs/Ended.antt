@@ -1,4 +1,4 @@
--- A script's text whose last line is ended, where it then isn't longer than a script may be.
+-- A script's text with its last line ended, unless that would make it longer than a script may be.
 use Rattle.std.specs.Prelude.{ℕ, nat_lt, cond, List, [], ◌∷◌, ◌++◌, length}
 use Rattle.text_io.specs.declared.kinds.LimitKind.TheVariants as limits
 use Rattle.text_io.specs.Limits.{common_limit}

@@ -8,8 +8,8 @@ use Rattle.script_text.specs.Parts.{Part, PartOf}
 use Rattle.script_print.specs.declared.operands.Entry.{Entry}
 use Rattle.script_print.specs.declared.operands.Entry.TheVariants as entry
 
--- lengths and percentages without a sign are seen by what they are without one; a box and a declaration have the words of the second
--- version, which has them all
+-- lengths and percentages without a sign by their absolute values; a box and a declaration with the words of the second version,
+-- which has them all
 abbrev pub part_of : Entry → Part
 part_of (entry.Word name) = PartOf NameForm name
 part_of (entry.Node operand) = PartOf NodeForm (operand_of operand)

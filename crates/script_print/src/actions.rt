@@ -1,4 +1,4 @@
-//! Commands without a block, one function a command.
+//! Printing of commands without a block, one function per command.
 #![tactic(auto, unfolding(crate::specs::Actions::Prints))]
 
 ghost use Rattle.script_syntax.specs.declared.commands.Action.TheVariants as action;
@@ -241,8 +241,8 @@ fn ro_disconnect(into: &mut Vec<u8>, observer: Name) -> Result<(), AllocError>
     push_line(into, b"ro-disconnect", &[Word(observer)])
 }
 
-/// `io NAME DOCUMENT HANDLER root ROOT margin WORD* scroll WORD* threshold NUMBER*`, without `scroll` where no scroll margin was
-/// given.
+/// `io NAME DOCUMENT HANDLER root ROOT margin WORD* scroll WORD* threshold NUMBER*`, without `scroll` if there is no scroll
+/// margin
 fn io(into: &mut Vec<u8>, making: &IoMaking) -> Result<(), AllocError>
     ensures { Prints result into.old.items into.new.items (action.Io making.now) }
 {

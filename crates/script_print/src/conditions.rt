@@ -1,4 +1,4 @@
-//! The conditions of `when`.
+//! Printing of conditions of `when`.
 
 ghost use Rattle.std.specs.Prelude.{◌≡◌, ◌++◌, ◌∷◌, cond, OnOk, codes};
 ghost use Rattle.script_print.specs.Spaced.{spaced};
@@ -25,7 +25,7 @@ fn push_test(into: &mut Vec<u8>, test: Test) -> Result<(), AllocError>
     }
 }
 
-/// The words before a test.
+/// Returns the words before a test.
 fn before_test(negated: bool) -> &'static [u8]
     ensures { result.now ≡ cond negated (codes "when not") (codes "when") }
 {

@@ -1,4 +1,4 @@
-//! Declarations: the words of a property and of its value.
+//! Printing of declarations: the words of a property and its value.
 
 ghost use Rattle.std.specs.Prelude.{◌≡◌, ◌++◌, ◌∷◌, [], option_map, unsigned_abs, OnOk};
 ghost use Rattle.px_units.specs.Lengths.{Automatic, Pixels, Percentage, AutomaticInset, InsetPixels, InsetPercentage, seen_length, seen_inset};
@@ -142,7 +142,7 @@ fn push_inset(into: &mut Vec<u8>, value: Length) -> Result<(), AllocError>
     }
 }
 
-/// Appends the name of a property that has sides.
+/// Appends the name of a property with sides.
 #[tactic(auto, using(media_queries::proofs::Appends::two_parts))]
 fn push_sided(into: &mut Vec<u8>, name: &[u8], sides: Sides) -> Result<(), AllocError>
     ensures { OnOk result (into.new.items ≡ into.old.items ++ (name.now ++ side_text (seen_sides sides))) }
@@ -200,7 +200,7 @@ fn push_value(into: &mut Vec<u8>, declaration: Declaration) -> Result<(), AllocE
     }
 }
 
-/// Appends a declaration's two words, each behind a space.
+/// Appends a declaration's two words, each after a space.
 #[tactic(auto, using(crate::proofs::LineWords::two_words_pushed))]
 pub fn push_declaration(into: &mut Vec<u8>, declaration: Declaration) -> Result<(), AllocError>
     ensures { OnOk result (into.new.items ≡ into.old.items ++ spaced (property_text (seen_declaration declaration) ∷ value_text (seen_declaration declaration) ∷ [])) }

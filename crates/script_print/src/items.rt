@@ -1,4 +1,4 @@
-//! Scripts from their first line on.
+//! Printing of items and whole scripts.
 
 ghost use Rattle.std.specs.Prelude.{◌≡◌, ◌++◌, map, IfOk, OnOk};
 ghost use Rattle.script_print.specs.LastNumber.{last_number};
@@ -14,7 +14,7 @@ use script_syntax::{Handler, Item};
 use std::alloc::AllocError;
 use text_io::Version;
 
-/// Appends the line of a `tick`, and gives its number.
+/// Appends the line of a `tick` after line `after`, and returns its line number.
 #[tactic(auto, using(crate::proofs::Blocks::tick_pushed, crate::proofs::Blocks::tick_last))]
 fn push_tick(into: &mut Vec<u8>, after: u32, line: u32, time: u64) -> Result<u32, AllocError>
     ensures text { OnOk result (into.new.items ≡ into.old.items ++ lines_text after (item_lines (Tick line time))) }
@@ -25,7 +25,7 @@ fn push_tick(into: &mut Vec<u8>, after: u32, line: u32, time: u64) -> Result<u32
     Ok(line)
 }
 
-/// Appends the lines of a handler, and gives the number of the last one, its `end`.
+/// Appends the lines of a handler after line `after`, and returns the line number of its `end`.
 #[tactic(auto, using(crate::proofs::Blocks::handler_pushed, crate::proofs::Blocks::handler_last))]
 fn push_handler(into: &mut Vec<u8>, after: u32, handler: &Handler) -> Result<u32, AllocError>
     ensures text { OnOk result (into.new.items ≡ into.old.items ++ lines_text after (item_lines (handler_item handler.now))) }
@@ -38,7 +38,7 @@ fn push_handler(into: &mut Vec<u8>, after: u32, handler: &Handler) -> Result<u32
     Ok(handler.end_line)
 }
 
-/// Appends the lines of an item behind the line of a number, and gives the number of the last one.
+/// Appends the lines of an item after line `after`, and returns the number of the last one.
 #[tactic(auto, unfolding(script_text::specs::NumberedLines::item_lines))]
 fn push_item(into: &mut Vec<u8>, after: u32, item: &Item) -> Result<u32, AllocError>
     ensures text { OnOk result (into.new.items ≡ into.old.items ++ lines_text after (item_lines (item_of item.now))) }
@@ -61,7 +61,7 @@ fn push_items(into: &mut Vec<u8>, items: &[Item]) -> Result<(), AllocError>
     Ok(())
 }
 
-/// Appends the text of a script of this version with these items, without a line feed behind its last line.
+/// Appends the text of a script of this version with these items, without a line feed at the end.
 #[tactic(auto, using(crate::proofs::Blocks::script_pushed))]
 pub fn push_script(into: &mut Vec<u8>, version: Version, items: &[Item]) -> Result<(), AllocError>
     ensures { OnOk result (into.new.items ≡ into.old.items ++ script_text (record { version = version; items = map item_of items.now })) }

@@ -1,4 +1,4 @@
-//! Scripts printed: the text of a script, which reads as the same script.
+//! Printing of scripts in their canonical form, which reads as the same script.
 #![tactic(auto)]
 
 ghost use Rattle.std.specs.Prelude.{◌≡◌, Ok, IfOk, OnOk};
@@ -19,7 +19,7 @@ use script_text::laws::{printed_script_reads_back, what_is_read_is_well_formed};
 use std::alloc::{AllocError, Global};
 use text_io::LimitKind;
 
-/// Appends the line feed of the last line, where the text then isn't longer than a script may be.
+/// Appends the line feed of the last line, unless that would make the text longer than a script may be.
 fn end_last_line(text: &mut Vec<u8>) -> Result<(), AllocError>
     ensures { OnOk result (text.new.items ≡ ended text.old.items) }
 {
@@ -29,9 +29,9 @@ fn end_last_line(text: &mut Vec<u8>) -> Result<(), AllocError>
     Ok(())
 }
 
-/// The text of a script, of its version: each line on its own number, one space between each two words of a line, each length, percentage
-/// and number as its shortest text. A line feed ends the last line too, where the text then isn't longer than a script may
-/// be. The text reads as the same script, with the same line numbers. The error is want of memory.
+/// Returns the printed text of a script: each line at its line number, single spaces between the words of a line, and each length,
+/// percentage and number as its shortest text. A line feed ends the last line too, unless that would make the text longer than a
+/// script may be. The text reads as the same script, with the same line numbers. Fails only if an allocation fails.
 pub fn print(alloc: Global, script: &Script) -> Result<Vec<u8>, AllocError>
     ensures text { IfOk result (λ text. text.items ≡ printed script.now) }
     ensures again { IfOk result (λ text. reading text.items ≡ Ok script.now) }

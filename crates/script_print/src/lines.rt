@@ -1,4 +1,4 @@
-//! The lines of commands, each on its own number. Numbers of lines are from 1.
+//! Printing of the lines of commands, each at its line number. Line numbers start at 1.
 
 ghost use Rattle.std.specs.Prelude.{◌≡◌, ◌-◌, ◌++◌, ◌∷◌, [], replicate, IfOk, OnOk};
 ghost use Rattle.script_print.specs.LastNumber.{last_number};
@@ -11,7 +11,7 @@ use crate::conditions::push_condition;
 use script_syntax::{Body, Command, What};
 use std::alloc::AllocError;
 
-/// Appends the line feeds that lead from a line to a later one, and none to any other.
+/// Appends the line feeds that lead from a line to a later one; none if it isn't later.
 pub fn push_line_feeds(into: &mut Vec<u8>, from: u32, to: u32) -> Result<(), AllocError>
     ensures { OnOk result (into.new.items ≡ into.old.items ++ replicate (to - from) 10) }
 {
@@ -21,7 +21,7 @@ pub fn push_line_feeds(into: &mut Vec<u8>, from: u32, to: u32) -> Result<(), All
     Ok(())
 }
 
-/// Appends the line of an `end`.
+/// Appends the line of an `end` after line `after`.
 #[tactic(auto, using(crate::proofs::Blocks::end_pushed))]
 pub fn push_end(into: &mut Vec<u8>, after: u32, line: u32) -> Result<(), AllocError>
     ensures { OnOk result (into.new.items ≡ into.old.items ++ lines_text after (end_line line ∷ [])) }
@@ -30,7 +30,7 @@ pub fn push_end(into: &mut Vec<u8>, after: u32, line: u32) -> Result<(), AllocEr
     into.extend_from_slice(b"end")
 }
 
-/// Appends the lines of a command behind the line of a number, and gives the number of the last one.
+/// Appends the lines of a command after line `after`, and returns the number of the last one.
 #[cycle(lines)]
 pub fn push_command(into: &mut Vec<u8>, after: u32, command: &Command) -> Result<u32, AllocError>
     ensures text { OnOk result (into.new.items ≡ into.old.items ++ lines_text after (command_lines (command_of command.now))) }
@@ -55,7 +55,7 @@ pub fn push_command(into: &mut Vec<u8>, after: u32, command: &Command) -> Result
     }
 }
 
-/// Appends the lines of a block and that of its `end`, and gives the number of that one.
+/// Appends the lines of a block and its `end` after line `after`, and returns the line number of the `end`.
 #[cycle(lines)]
 #[tactic(auto, using(crate::proofs::Blocks::lines_pushed))]
 fn push_body(into: &mut Vec<u8>, after: u32, body: &Body) -> Result<u32, AllocError>
@@ -67,7 +67,7 @@ fn push_body(into: &mut Vec<u8>, after: u32, body: &Body) -> Result<u32, AllocEr
     Ok(body.end_line)
 }
 
-/// Appends the lines of commands one after the other, and gives the number of the last one.
+/// Appends the lines of commands after line `after`, and returns the number of the last one.
 #[cycle(lines)]
 pub fn push_commands(
     into: &mut Vec<u8>,

@@ -1,4 +1,4 @@
-//! Lengths, percentages and numbers, each as its shortest text.
+//! Printing of lengths, percentages and numbers, each as its shortest text.
 
 ghost use Rattle.std.specs.Prelude.{◌≡◌, ◌++◌, [], OnOk};
 ghost use Rattle.script_print.specs.Minus.{minus_text};
@@ -8,7 +8,7 @@ use media_queries::push_length;
 use std::alloc::AllocError;
 use word_model::push_decimal;
 
-/// Appends the sign of a negative number.
+/// Appends the minus sign of a negative number.
 fn push_minus(into: &mut Vec<u8>, number: i64) -> Result<(), AllocError>
     ensures { OnOk result (into.new.items ≡ into.old.items ++ minus_text number) }
 {
@@ -18,7 +18,7 @@ fn push_minus(into: &mut Vec<u8>, number: i64) -> Result<(), AllocError>
     Ok(())
 }
 
-/// Appends a length with a sign, in units of 1/64 CSS pixel.
+/// Appends a length, which may be negative, in units of 1/64 CSS pixel.
 #[tactic(auto, using(crate::proofs::Digits::signed_pushed))]
 pub fn push_signed(into: &mut Vec<u8>, units: i64) -> Result<(), AllocError>
     ensures { OnOk result (into.new.items ≡ into.old.items ++ signed_text units) }
@@ -27,7 +27,7 @@ pub fn push_signed(into: &mut Vec<u8>, units: i64) -> Result<(), AllocError>
     push_length(into, units.unsigned_abs())
 }
 
-/// Appends a number that counts units of its last place of so many, with all these places.
+/// Appends a fixed-point number with `places` decimal places, all of which are printed.
 #[tactic(auto, using(crate::proofs::Digits::point_pushed, crate::proofs::Digits::place_pushed))]
 fn push_all_places(into: &mut Vec<u8>, places: u8, number: u64) -> Result<(), AllocError>
     ensures { OnOk result (into.new.items ≡ into.old.items ++ all_places places number []) }
@@ -42,7 +42,7 @@ fn push_all_places(into: &mut Vec<u8>, places: u8, number: u64) -> Result<(), Al
     Ok(())
 }
 
-/// Appends the same without zeros at the end, and without the point if no place is left.
+/// Like `push_all_places`, but without trailing zeros, and without the point if no decimals are left.
 #[tactic(auto, using(crate::proofs::Digits::no_places, crate::proofs::Digits::place_cut, crate::proofs::Digits::places_kept))]
 fn push_places(into: &mut Vec<u8>, places: u8, number: u64) -> Result<(), AllocError>
     ensures { OnOk result (into.new.items ≡ into.old.items ++ places_text places number) }
@@ -56,7 +56,7 @@ fn push_places(into: &mut Vec<u8>, places: u8, number: u64) -> Result<(), AllocE
     push_all_places(into, places, number)
 }
 
-/// Appends a percentage in hundredths of a percent.
+/// Appends a percentage given in hundredths of a percent.
 #[tactic(auto, using(crate::proofs::Digits::percent_pushed))]
 pub fn push_percent(into: &mut Vec<u8>, hundredths: u64) -> Result<(), AllocError>
     ensures { OnOk result (into.new.items ≡ into.old.items ++ percent_text hundredths) }
@@ -66,7 +66,7 @@ pub fn push_percent(into: &mut Vec<u8>, hundredths: u64) -> Result<(), AllocErro
     Ok(())
 }
 
-/// Appends a percentage with a sign, in hundredths of a percent.
+/// Appends a percentage, which may be negative, given in hundredths of a percent.
 #[tactic(auto, using(crate::proofs::Digits::signed_percent_pushed))]
 pub fn push_signed_percent(into: &mut Vec<u8>, hundredths: i64) -> Result<(), AllocError>
     ensures { OnOk result (into.new.items ≡ into.old.items ++ signed_percent_text hundredths) }
@@ -75,7 +75,7 @@ pub fn push_signed_percent(into: &mut Vec<u8>, hundredths: i64) -> Result<(), Al
     push_percent(into, hundredths.unsigned_abs())
 }
 
-/// Appends a number in ten-thousandths.
+/// Appends a number given in ten-thousandths.
 #[tactic(auto, using(crate::proofs::Digits::number_pushed))]
 pub fn push_number(into: &mut Vec<u8>, number: i64) -> Result<(), AllocError>
     ensures { OnOk result (into.new.items ≡ into.old.items ++ number_text number) }

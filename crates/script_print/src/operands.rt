@@ -1,4 +1,4 @@
-//! The operands of a line, each word of them behind a space.
+//! Printing of the operands of a line, with a space before each word.
 
 ghost use Rattle.std.specs.Prelude.{◌≡◌, ◌++◌, ◌∷◌, [], Some, map, option_map, unsigned_abs, OnOk};
 ghost use Rattle.media_queries.specs.QueryText.{list_text};
@@ -30,9 +30,9 @@ pub enum Entry {
     Word(Name),
     Node(Operand),
     Aimed(Aim),
-    /// None for `-`.
+    /// `None` for `-`.
     Handler(Option<Name>),
-    /// None for `-`.
+    /// `None` for `-`.
     Root(Option<Operand>),
     Length(i64),
     Signed(i64),
@@ -44,7 +44,7 @@ pub enum Entry {
     Declared(Declaration),
 }
 
-/// Appends a word behind a space.
+/// Appends a space and a word.
 #[tactic(auto, using(crate::proofs::LineWords::word_pushed))]
 pub fn push_word(into: &mut Vec<u8>, word: &[u8]) -> Result<(), AllocError>
     ensures { OnOk result (into.new.items ≡ into.old.items ++ spaced (word.now ∷ [])) }
@@ -68,7 +68,7 @@ fn push_operand(into: &mut Vec<u8>, operand: Operand) -> Result<(), AllocError>
     }
 }
 
-/// Appends a window's document, behind an `@`.
+/// Appends a space, an `@` and the name of the window's document.
 #[tactic(auto, using(crate::proofs::LineWords::two_pieces))]
 fn push_window(into: &mut Vec<u8>, document: Name) -> Result<(), AllocError>
     ensures { OnOk result (into.new.items ≡ into.old.items ++ spaced ((64 ∷ document) ∷ [])) }
@@ -104,7 +104,7 @@ fn push_root(into: &mut Vec<u8>, root: Option<Operand>) -> Result<(), AllocError
     }
 }
 
-/// Appends a length behind a space.
+/// Appends a space and a length.
 #[tactic(auto, using(crate::proofs::LineWords::word_pushed))]
 fn push_spaced_length(into: &mut Vec<u8>, units: u64) -> Result<(), AllocError>
     ensures { OnOk result (into.new.items ≡ into.old.items ++ spaced (length_text units ∷ [])) }
@@ -113,7 +113,7 @@ fn push_spaced_length(into: &mut Vec<u8>, units: u64) -> Result<(), AllocError>
     push_length(into, units)
 }
 
-/// Appends a length with a sign behind a space.
+/// Appends a space and a length, which may be negative.
 #[tactic(auto, using(crate::proofs::LineWords::word_pushed))]
 fn push_spaced_signed(into: &mut Vec<u8>, units: i64) -> Result<(), AllocError>
     ensures { OnOk result (into.new.items ≡ into.old.items ++ spaced (signed_text units ∷ [])) }
@@ -122,7 +122,7 @@ fn push_spaced_signed(into: &mut Vec<u8>, units: i64) -> Result<(), AllocError>
     push_signed(into, units)
 }
 
-/// Appends a percentage behind a space.
+/// Appends a space and a percentage.
 #[tactic(auto, using(crate::proofs::LineWords::word_pushed))]
 fn push_spaced_percent(into: &mut Vec<u8>, percent: Percent) -> Result<(), AllocError>
     ensures { OnOk result (into.new.items ≡ into.old.items ++ spaced (percent_text (unsigned_abs percent.0) ∷ [])) }
@@ -132,7 +132,7 @@ fn push_spaced_percent(into: &mut Vec<u8>, percent: Percent) -> Result<(), Alloc
     push_percent(into, u64::from(hundredths))
 }
 
-/// Appends a whole number behind a space.
+/// Appends a space and a whole number.
 #[tactic(auto, using(crate::proofs::LineWords::word_pushed))]
 fn push_spaced_whole(into: &mut Vec<u8>, number: u64) -> Result<(), AllocError>
     ensures { OnOk result (into.new.items ≡ into.old.items ++ spaced (decimal number ∷ [])) }
@@ -141,7 +141,7 @@ fn push_spaced_whole(into: &mut Vec<u8>, number: u64) -> Result<(), AllocError>
     push_decimal(into, u128::from(number))
 }
 
-/// Appends a number behind a space.
+/// Appends a space and a number.
 #[tactic(auto, using(crate::proofs::LineWords::word_pushed))]
 fn push_spaced_number(into: &mut Vec<u8>, number: &i64) -> Result<(), AllocError>
     ensures { OnOk result (into.new.items ≡ into.old.items ++ spaced (number_text number.now ∷ [])) }
@@ -191,7 +191,7 @@ fn push_entry(into: &mut Vec<u8>, entry: Entry) -> Result<(), AllocError>
     }
 }
 
-/// Appends the words of operands one after the other.
+/// Appends the words of operands, in order.
 pub fn push_entries(into: &mut Vec<u8>, entries: &[Entry]) -> Result<(), AllocError>
     ensures { OnOk result (into.new.items ≡ into.old.items ++ spaced (all_words (map part_of entries.now))) }
 {
@@ -210,7 +210,7 @@ pub fn push_line(into: &mut Vec<u8>, head: &[u8], entries: &[Entry]) -> Result<(
     push_entries(into, entries)
 }
 
-/// Appends a word behind a space, and its operands.
+/// Appends a space, a word and its operands.
 #[tactic(auto, using(crate::proofs::LineWords::phrase_pushed))]
 pub fn push_phrase(into: &mut Vec<u8>, head: &[u8], entries: &[Entry]) -> Result<(), AllocError>
     ensures { OnOk result (into.new.items ≡ into.old.items ++ spaced (head.now ∷ all_words (map part_of entries.now))) }
@@ -219,7 +219,7 @@ pub fn push_phrase(into: &mut Vec<u8>, head: &[u8], entries: &[Entry]) -> Result
     push_entries(into, entries)
 }
 
-/// Appends the words of a root margin, and those of a scroll margin behind `scroll`, where there is one.
+/// Appends the words of a root margin and, if there is one, `scroll` and the words of a scroll margin.
 #[tactic(auto, using(crate::proofs::LineWords::words_pushed))]
 pub fn push_margins(into: &mut Vec<u8>, making: &IoMaking) -> Result<(), AllocError>
     ensures { OnOk result (into.new.items ≡ into.old.items ++ spaced (parts_of making.now.margin ++ scroll_words making.now.scroll)) }
@@ -258,7 +258,7 @@ fn push_margin(into: &mut Vec<u8>, margin: &MarginText) -> Result<(), AllocError
     into.extend_from_slice(words)
 }
 
-/// Appends numbers, each behind a space.
+/// Appends numbers, each after a space.
 fn push_numbers(into: &mut Vec<u8>, numbers: &[i64]) -> Result<(), AllocError>
     ensures { OnOk result (into.new.items ≡ into.old.items ++ spaced (map number_text numbers.now)) }
 {
@@ -275,7 +275,7 @@ pub fn push_thresholds(into: &mut Vec<u8>, numbers: &NumberList) -> Result<(), A
     push_numbers(into, numbers.as_slice())
 }
 
-/// Appends a list of media queries behind a space.
+/// Appends a space and a media query list.
 #[tactic(auto, using(crate::proofs::LineWords::word_pushed))]
 pub fn push_query(into: &mut Vec<u8>, query: &Query) -> Result<(), AllocError>
     ensures { OnOk result (into.new.items ≡ into.old.items ++ spaced (list_text query.now ∷ [])) }

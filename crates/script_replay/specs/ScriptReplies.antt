@@ -1,4 +1,4 @@
--- The reply to what is asked of one script: the text that is written, and the status once it is. All of this is this project's own
+-- The reply to a job for one script: the text that is written, and the status after that. All of this is this project's own
 -- choice.
 use Rattle.std.specs.Prelude.{ℕ, cond, nat_lt, List, Ok, Err}
 use Rattle.script_model.specs.Syntax as syntax
@@ -18,12 +18,12 @@ use Rattle.run_replies.specs.declared.words.Sight.{Sight}
 use Rattle.script_items.specs.Stops.{after, tick_count}
 use Rattle.script_replay.specs.Sights.{last_of, sight_text, ticks_text}
 
--- what is told of the page of a script as a tick of it ends; the number of its ticks where it has fewer
+-- what is shown of the page of a script at the end of one of its ticks, or the number of its ticks if it has fewer
 unfoldable pub told_text : Sight → ℕ → List syntax.Item → World → List ℕ
 unfolding sight_text tick_count ticks_text
 told_text sight number items world = cond (nat_lt (tick_count items) number) (ticks_text (tick_count items)) (sight_text sight world)
 
--- the same by how the run up to that tick goes on: of one that meets a limit the line that says so
+-- the same, by how the run up to that tick ends: if it met a limit, the line that says so
 abbrev pub told_with : Sight → ℕ → List syntax.Item → Said World → Flow → Reply
 told_with sight number items said Next = done_with (told_text sight number items (said.state))
 told_with sight number items said Thrown = done_with (told_text sight number items (said.state))
@@ -33,7 +33,7 @@ unfoldable pub sight_reply : Sight → ℕ → syntax.Script → Reply
 unfolding after bytes_of last_of told_text
 sight_reply sight number script = told_with sight number (script.items) (after script number) (after script number).flow
 
--- what is done with a script
+-- the reply of each job for a script
 unfoldable pub script_reply : Job → syntax.Script → Reply
 unfolding outcome_read bytes_of check_read lint_text sight_reply summary_read printed
 script_reply Replay script = outcome_reply (outcome_read (Ok script))
@@ -43,7 +43,7 @@ script_reply Summary script = record { text = summary_read (Ok script); status =
 script_reply Print script = done_with (printed script)
 script_reply (AtTick sight number) script = sight_reply sight number script
 
--- the same with a text by its reading
+-- the same for a text, by the result of reading it
 unfoldable pub read_reply : Job → Reading → Reply
 unfolding script_reply line_text
 read_reply job (Ok script) = script_reply job script

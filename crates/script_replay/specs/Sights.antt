@@ -1,4 +1,4 @@
--- What is told of a page as a tick of its script ends. All of this is this project's own choice.
+-- What is shown of a page at the end of a tick of its script. All of this is this project's own choice.
 use Rattle.std.specs.Prelude.{ℕ, ◌-◌, List, [], ◌∷◌, ◌++◌, drop, flat_map, length, map, codes}
 use Rattle.word_model.specs.Numbers.{decimal}
 use Rattle.script_model.specs.TraceLines.{TraceLine}
@@ -10,12 +10,12 @@ use Rattle.box_inspector.specs.BoxText.{boxes_text}
 use Rattle.run_replies.specs.declared.words.Sight.{Sight}
 use Rattle.run_replies.specs.declared.words.Sight.TheVariants.{Boxes, Hits}
 
--- a script with fewer ticks is told with their number
+-- for a script with fewer ticks, how many it has
 unfoldable pub ticks_text : ℕ → List ℕ
 unfolding decimal
 ticks_text count = codes "ticks " ++ decimal count ++ codes "\n"
 
--- the elements that a point hits, by their names, or one line where it hits none
+-- the elements that a point hits, by their names, or one line if it hits none
 unfoldable pub hit_text : List ℕ → List ℕ
 hit_text name = codes "hit " ++ name ++ codes "\n"
 
@@ -24,7 +24,7 @@ unfolding hit_text
 hits_text [] = codes "miss\n"
 hits_text (name ∷ names) = flat_map hit_text (name ∷ names)
 
--- what is told of a page in a world
+-- what is shown of a page in a world
 unfoldable pub sight_text : Sight → World → List ℕ
 unfolding boxes_text box_list hits_text hits
 sight_text Boxes world = boxes_text (box_list world)

@@ -1,4 +1,4 @@
-//! One script on a page of its own: what is asked of it is done, and what is to be said of it is written.
+//! Performs a job on one script, on a page of its own if it needs one, and writes the result.
 #![tactic(auto)]
 
 mod report;

@@ -1,4 +1,4 @@
-//! What is asked of a script, done with it.
+//! The jobs on a script.
 
 ghost use Rattle.std.specs.Prelude.{◌≡◌, ◌&&◌, Ok, Err, is_some, true, false, IfSome};
 ghost use Rattle.script_model.specs.Reading.{Reading, reading};
@@ -27,7 +27,7 @@ use step_count::Steps;
 use text_io::Sink;
 use trace_runs::RunFault;
 
-// A text that is no script.
+// Writes the line for a text that isn't a script.
 fn refuse_text<K: Sink>(alloc: Global, fault: ParseFault, sink: &mut K) -> Status
     requires { HasCommonLimit fault }
     ensures tells { (job : Job) (read : Reading) → Parses (Err fault) read → Tells result (read_reply job read)
@@ -41,7 +41,7 @@ fn refuse_text<K: Sink>(alloc: Global, fault: ParseFault, sink: &mut K) -> Statu
     }
 }
 
-// A script, on a page that was just made.
+// Runs a script on a new page.
 fn run_on<K: Sink, L: Ledger>(
     alloc: Global,
     page: &mut Page,
@@ -64,7 +64,7 @@ fn run_on<K: Sink, L: Ledger>(
     }
 }
 
-// A script, on a page of its own.
+// Runs a script on a page of its own.
 fn run_script<K: Sink, L: Ledger>(
     alloc: Global,
     script: &Script,
@@ -84,13 +84,13 @@ fn run_script<K: Sink, L: Ledger>(
     }
 }
 
-/// Does with a script what is asked, and writes what is to be said of it. The page is handed out exactly where the script is run to its end
-/// for its trace or its summary.
+/// Performs a job on a script, and writes the result. The page is returned exactly when the script was run to its end for its
+/// trace or its summary.
 ///
-/// - `Done`, `Limit`: exactly by the reply to the job and the script, and all of its text was written. No `Syntax`, `Differs`, `Usage` or
-///   `ReadFault` comes.
-/// - `WriteFault`: only where the sink's count of faults rose in this call; `NoMemory` for want of memory. A first part of the text was
-///   written.
+/// - `Done`, `Limit`: exactly as the reply to the job and the script says, and all of its text was written. `Syntax`,
+///   `Differs`, `Usage` and `ReadFault` don't occur.
+/// - `WriteFault`: only if the sink's fault count rose in this call; `NoMemory` if an allocation fails. A prefix of the text
+///   was written.
 pub fn perform<K: Sink, L: Ledger>(
     alloc: Global,
     job: Job,
@@ -124,7 +124,8 @@ pub fn perform<K: Sink, L: Ledger>(
     }
 }
 
-/// The same with the script of a text: of one that is no script, the line that says where is written, with `Syntax` or `Limit`.
+/// The same for the text of a script; for a text that isn't a script, writes the line that says where the fault is, with
+/// `Syntax` or `Limit`.
 pub fn perform_on_text<K: Sink, L: Ledger>(
     alloc: Global,
     job: Job,

@@ -1,4 +1,4 @@
-//! What is seen of a page as a tick of its script ends.
+//! The boxes or hits of a page at the end of a tick of its script.
 
 ghost use Rattle.std.specs.Prelude.{◌≡◌, ◌<◌, ◌++◌, ◌-◌, All, IfOk, OnOk, length, map};
 ghost use Rattle.element_tree.specs.Links.{number as numbered};
@@ -32,7 +32,7 @@ use trace_runs::RunFault;
 use trace_summary::GatherSink;
 use word_model::push_decimal;
 
-// The line of a script that has fewer ticks.
+// Returns the line for a script that has fewer ticks.
 fn ticks_line(alloc: Global, count: u64) -> Result<Vec<u8>, AllocError>
     ensures { IfOk result (λ line. line.items ≡ ticks_text count) }
 {
@@ -42,7 +42,7 @@ fn ticks_line(alloc: Global, count: u64) -> Result<Vec<u8>, AllocError>
     Ok(line)
 }
 
-// The text of boxes.
+// Returns the text of boxes.
 fn text_of_boxes(alloc: Global, lines: &[BoxLine]) -> Result<Vec<u8>, AllocError>
     requires { All BoxReaches lines.now }
     ensures { IfOk result (λ text. text.items ≡ boxes_text lines.now) }
@@ -66,7 +66,7 @@ fn push_hit(page: &Page, node: NodeId, text: &mut Vec<u8>) -> Result<(), AllocEr
     Ok(())
 }
 
-// The text of the elements that are hit.
+// Returns the text of the elements that are hit.
 fn text_of_hits(alloc: Global, page: &Page, nodes: &[NodeId]) -> Result<Vec<u8>, AllocError>
     requires { All (λ node. node.0 < length page.now.world.tree.elements) nodes.now }
     ensures { IfOk result (λ text. text.items ≡ hits_text (map (element_text page.now.world.names) (map numbered nodes.now))) }
@@ -119,7 +119,7 @@ fn seen<L: Ledger>(
     }
 }
 
-// What is seen of a page as that tick of its script ends, of whose number so many are lacking.
+// Returns the text for a page at the end of the tick, or the line with the number of its ticks if `lacking` isn't 0.
 fn told<L: Ledger>(
     alloc: Global,
     page: &mut Page,
@@ -158,7 +158,7 @@ fn write_told<K: Sink, L: Ledger>(
     }
 }
 
-// On a page that was just made. The trace is gathered in memory, and nobody looks at it.
+// The same, on a new page. The trace is collected in memory and discarded.
 fn write_sight_on<K: Sink, L: Ledger>(
     alloc: Global,
     page: &mut Page,
@@ -178,13 +178,13 @@ fn write_sight_on<K: Sink, L: Ledger>(
             let wrote = write_limit(alloc, kind, line, number, sink);
             status_of(wrote, Status::Limit)
         }
-        // In memory a write fails for want of it alone.
+        // A write to memory fails only if an allocation fails.
         Err(RunFault::Memory | RunFault::WriteFault) => Status::NoMemory,
     }
 }
 
-/// Runs a script on a page of its own until its tick of this number ends, counted from 1, and writes what is seen of the page then, or
-/// how many ticks the script has where it has fewer, or the line of a limit that is met before.
+/// Runs a script on a page of its own until the end of the tick with this number, counted from 1, and writes the boxes or
+/// hits of the page then, or how many ticks the script has if it has fewer, or the line of a limit that is met before.
 pub fn write_sight<K: Sink, L: Ledger>(
     alloc: Global,
     sight: Sight,

@@ -1,4 +1,4 @@
-//! Scripts that are run for the summary of their traces.
+//! Running scripts for the summaries of their traces.
 
 ghost use Rattle.std.specs.Prelude.{◌≡◌, true, Ok, is_some, IfSome};
 ghost use Rattle.page_model.specs.Outcome.{opening_world, outcome_read};
@@ -18,7 +18,7 @@ use text_io::Sink;
 use trace_runs::RunFault;
 use trace_summary::GatherSink;
 
-// A script, on a page that was just made. Its trace is gathered in memory.
+// Runs a script on a new page, collecting its trace in memory.
 fn summarize_on<K: Sink, L: Ledger>(
     alloc: Global,
     page: &mut Page,
@@ -36,13 +36,12 @@ fn summarize_on<K: Sink, L: Ledger>(
         Err(RunFault::Limit { kind, line, number }) => {
             summarize_to_limit(alloc, kind, line, number, gathered, sink)
         }
-        // In memory a write fails for want of it alone.
+        // A write to memory fails only if an allocation fails.
         Err(RunFault::Memory | RunFault::WriteFault) => Status::NoMemory,
     }
 }
 
-/// Runs a script on a page of its own, and writes how many lines of each kind its trace has, as the lines of the trace are read
-/// back.
+/// Runs a script on a page of its own, and writes how many lines of each kind its trace has, reading the lines back.
 pub fn summarize<K: Sink, L: Ledger>(
     alloc: Global,
     script: &Script,

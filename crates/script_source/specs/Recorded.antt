@@ -1,4 +1,4 @@
--- A source with a recorded trace that comes in pieces: what was made of the bytes that came, and what the others will add to it.
+-- A source with a recorded trace that is read in pieces: what was made of the bytes so far, and what further bytes add to it.
 use Rattle.std.specs.Prelude.{◌≡◌, ℕ, ◌==◌, Bool, List, [], ◌++◌, count_by, length, take}
 use Rattle.std.specs.List.{list_any}
 use Rattle.trace_summary.specs.Lines.{first_line, behind_line}
@@ -6,7 +6,8 @@ use Rattle.trace_judge.specs.Recordings.{script_of, trace_of}
 use Rattle.script_source.specs.declared.recorded.Place.{Place}
 use Rattle.script_source.specs.declared.recorded.Place.TheVariants.{Line, WithinLine, Trace}
 
--- the script's bytes that are looked at; the first bytes of a line, where the next one stands; and the recorded trace so far
+-- the script's bytes that are looked at; the first bytes of a line that isn't complete; where the next byte is; and the recorded
+-- trace so far
 pub record Divided : Type 0 where
   pub script : List ℕ
   pub begun : List ℕ
@@ -19,26 +20,26 @@ opened = record { script = []; begun = []; place = Line; trace = [] }
 abbrev pub has_feed : List ℕ → Bool
 has_feed bytes = list_any (λ byte. byte == 10) bytes
 
--- what bytes at a place are of the script
+-- the part of the bytes from a place on that belongs to the script
 abbrev pub script_at : Place → List ℕ → List ℕ
 script_at Line bytes = script_of bytes
 script_at WithinLine bytes = first_line bytes ++ script_of (behind_line bytes)
 script_at Trace bytes = []
 
--- and of the recorded trace
+-- the part of them that belongs to the recorded trace
 abbrev pub trace_at : Place → List ℕ → List ℕ
 trace_at Line bytes = trace_of bytes
 trace_at WithinLine bytes = trace_of (behind_line bytes)
 trace_at Trace bytes = bytes
 
--- the bytes that came, whatever comes behind them
+-- what was made of the bytes so far, whatever follows them
 pub record Divides (bytes : List ℕ) (it : Divided) : Type 0 where
   pub script_bytes : List ℕ
   pub looked_at : it.script ≡ take 16777217 script_bytes
   pub script : (others : List ℕ) → script_of (bytes ++ others) ≡ script_bytes ++ script_at it.place (it.begun ++ others)
   pub trace : (others : List ℕ) → trace_of (bytes ++ others) ≡ it.trace ++ trace_at it.place (it.begun ++ others)
 
--- the same where nothing further comes
+-- the same if nothing follows
 abbrev pub IsDivided : List ℕ → Divided → Type 0
 IsDivided bytes it = (it.script ≡ take 16777217 (script_of bytes)) × (it.trace ≡ trace_of bytes)
 

@@ -4,11 +4,11 @@ use Rattle.text_io.specs.Streams.{Rose}
 use Rattle.run_replies.specs.declared.status.Status.{Status}
 use Rattle.run_replies.specs.declared.status.Status.TheVariants.{NoMemory, ReadFault}
 
--- a source was read up to a limit: these are its first bytes, and the others are left
+-- a source was read up to a limit: these are its first bytes, and the rest is left
 abbrev pub ReadTo : ℕ → (before after : Option (List ℕ)) → List ℕ → Type 0
 ReadTo limit before after bytes = IfSome before (λ source. (bytes ≡ take limit source) × (after ≡ Some (drop limit source)))
 
--- why a source can't be read: want of memory has no cause
+-- why a source can't be read: a read failed, or memory was refused, for which no reason is given
 abbrev pub IsUnread : Status → (faults faults_after : ℕ) → Type 0
 IsUnread ReadFault faults faults_after = Rose faults faults_after
 IsUnread NoMemory faults faults_after = Unit {0}

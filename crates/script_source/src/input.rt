@@ -1,4 +1,4 @@
-//! The text of a script, read in pieces.
+//! Reading the text of a script in pieces.
 
 ghost use Rattle.std.specs.Prelude.{◌≡◌, ◌++◌, ◌-◌, [], length, take, IfErr, IfOk, OnErr, OnOk};
 ghost use Rattle.script_model.specs.Reading.{reading};
@@ -12,16 +12,16 @@ use std::alloc::{AllocError, Global};
 use std::marker::Model;
 use text_io::{Failed, Source};
 
-/// How many bytes of a script are looked at: one more than it may have, so that a longer one is told.
+/// How many bytes of a script are looked at: one more than it may have, so that a longer one is detected.
 const LOOKED_AT: usize = 16_777_217;
 
-/// The most bytes of a line.
+/// The most bytes that a line may have.
 const MOST_LINE: usize = 4096;
 
-// How many bytes a source is read by.
+// The most bytes per read.
 const PIECE: usize = 4096;
 
-/// The text of a script, as it comes in pieces: of a text that is longer than a script may be, the bytes that are looked at.
+/// The text of a script, as it arrives in pieces. Of a text that is longer than a script may be, only the bytes that are looked at.
 #[derive(Drop)]
 pub struct ScriptText {
     lexer: Lexer,
@@ -39,7 +39,7 @@ impl Model for ScriptText {
 }
 
 impl ScriptText {
-    /// A text of which nothing came yet. No memory.
+    /// Creates an empty text; allocates nothing.
     pub fn new(alloc: Global) -> ScriptText
         ensures { result ≡ [] }
     {
@@ -49,14 +49,14 @@ impl ScriptText {
         }
     }
 
-    /// How many further bytes of it are looked at.
+    /// Returns how many further bytes will be looked at.
     pub fn room(&self) -> usize
         ensures { result ≡ 16777217 - length self.now }
     {
         LOOKED_AT - self.taken
     }
 
-    /// The next piece. Where no memory is left, nothing of it is taken.
+    /// Appends the next piece, as far as it is looked at. If an allocation fails, nothing of it is taken.
     pub fn feed(&mut self, piece: &[u8]) -> Result<(), AllocError>
         ensures ok { OnOk result (self.new ≡ take 16777217 (self.old ++ piece.now)) }
         ensures err { OnErr result (self.new ≡ self.old) }
@@ -67,10 +67,10 @@ impl ScriptText {
         Ok(())
     }
 
-    /// The script that it is.
+    /// Parses the text as a script.
     ///
     /// # Errors
-    /// `Syntax` and `ScriptLimit` exactly at the first fault or limit of the bytes that came; `Memory` for want of memory.
+    /// `Syntax` or `ScriptLimit` with the first fault or limit of the bytes that were fed; `Memory` if an allocation fails.
     pub fn parse(self, alloc: Global) -> Result<Script, ParseFault>
         ensures value { Parses result (reading self) }
         ensures limit { IfErr result HasCommonLimit }
@@ -82,11 +82,11 @@ impl ScriptText {
     }
 }
 
-/// Reads the script that the source has left: its bytes to the end, or the first 16,777,217.
+/// Reads the text of a script from the source: all bytes that it has left, or the first 16,777,217 of them.
 ///
 /// # Errors
-/// The status of a run that can't read it: `ReadFault` only where the source's count of faults rose in this call, `NoMemory` for want of
-/// memory. No other status comes. How much was taken then isn't told.
+/// The status of a run that can't read it: `ReadFault` only where the source's fault count rose in this call, or `NoMemory` if an
+/// allocation fails; no other status. How much was consumed then is unspecified.
 pub fn read_script<S: Source>(alloc: Global, source: &mut S) -> Result<ScriptText, Status>
     ensures read { IfOk result (λ script. ReadTo 16777217 (S.left source.old) (S.left source.new) script) }
     ensures cause { IfErr result (λ status. IsUnread status (S.faults source.old) (S.faults source.new)) }

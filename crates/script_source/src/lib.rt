@@ -1,4 +1,4 @@
-//! Sources, read: the text of a script as it comes in pieces, and a script with its recorded trace behind it.
+//! Reading of sources in pieces: the text of a script, or a script followed by its recorded trace.
 #![tactic(auto)]
 
 mod input;

@@ -1,4 +1,4 @@
-//! A source with a recorded trace, read in pieces: its script is taken as it comes, and its trace is held once.
+//! Reading a source with a recorded trace in pieces: its script is lexed as it arrives, and its trace is stored only once.
 
 ghost use Rattle.std.specs.Prelude.{◌≡◌, ◌≤◌, ◌<◌, ◌+◌, ◌-◌, ◌==◌, ◌++◌, ℕ, List, [], Some, IsTrue, false, length, take, IfErr, IfOk, IfSome, OnOk};
 ghost use Rattle.text_io.specs.Streams.{IsCauseOfReading};
@@ -13,21 +13,21 @@ use text_io::{Failed, Source, TextFault, line_feeds};
 use trace_judge::is_divider;
 use trace_summary::split_line;
 
-/// Where the next byte of a source stands.
+/// Where the next byte of a source belongs.
 #[derive(Clone, Copy, Debug, PartialEq, Eq)]
 pub enum Place {
-    /// In a line of which the script has no byte yet: it may become the line `trace`.
+    /// To a line of which the script has no byte yet: it may turn out to be the line `trace`.
     Line,
-    /// In a line of which the script has the first bytes.
+    /// To a line of which the script already has the first bytes.
     WithinLine,
-    /// Behind the line `trace`.
+    /// To the recorded trace, after the line `trace`.
     Trace,
 }
 
-/// The first bytes of a line are held while it may become the line `trace`, which with its ends has seven at the most.
+/// The first bytes of a line are held back while it may turn out to be the line `trace`, which has at most seven with its line ending.
 const MOST_HELD: usize = 7;
 
-/// A script with a recorded trace behind it, as they come in pieces.
+/// A script followed by a recorded trace, as they arrive in pieces.
 #[derive(Drop)]
 pub struct RecordedText {
     script: ScriptText,
@@ -67,35 +67,35 @@ impl RecordedText {
         self.place
     }
 
-    // Whether all of the line that is held has come.
+    // Whether the line held back is complete.
     fn is_ended(&self) -> bool
         ensures { result ≡ has_feed self.now.begun }
     {
         self.begun.iter().any(|byte| *byte == b'\n')
     }
 
-    // Whether what is held is the line `trace`.
+    // Whether the line held back is the line `trace`.
     fn is_divider(&self) -> bool
         ensures { result ≡ is_divider self.now.begun }
     {
         is_divider(&self.begun)
     }
 
-    // Whether more is held than the line `trace` has.
+    // Whether more bytes are held back than the line `trace` has.
     fn is_long(&self) -> bool
         ensures { IsTrue result → 7 < length self.now.begun }
     {
         self.begun.len() > MOST_HELD
     }
 
-    // Holds a further part of a line.
+    // Holds back a further part of a line.
     fn hold(&mut self, part: &[u8]) -> Result<(), AllocError>
         ensures { OnOk result (self.new ≡ record self.old { begun = self.old.begun ++ part.now }) }
     {
         self.begun.extend_from_slice(part)
     }
 
-    // Gives to the script what is held, and goes on at a place.
+    // Moves the bytes held back to the script, and sets where the next byte belongs.
     fn give_to_script(&mut self, place: Place) -> Result<(), AllocError>
         ensures { OnOk result (self.new ≡ record {
           script = take 16777217 (self.old.script ++ self.old.begun);
@@ -110,7 +110,7 @@ impl RecordedText {
         Ok(())
     }
 
-    // Gives to the trace what is held.
+    // Moves the bytes held back to the trace.
     fn give_to_trace(&mut self) -> Result<(), AllocError>
         ensures { OnOk result (self.new ≡ record self.old { begun = []; trace = self.old.trace ++ self.old.begun }) }
     {
@@ -119,7 +119,7 @@ impl RecordedText {
         Ok(())
     }
 
-    // Goes on behind the line `trace`, which is held.
+    // Drops the line `trace`, which is held back, and continues with the trace.
     fn begin_trace(&mut self)
         ensures { self.new ≡ record self.old { begun = []; place = Place.Trace } }
     {
@@ -127,7 +127,7 @@ impl RecordedText {
         self.place = Place::Trace;
     }
 
-    // Gives what is held of a line to the script where it isn't the line `trace`. A line of few bytes may yet become it.
+    // Moves the bytes held back to the script, unless they are the line `trace` or the line is so short that it may still become that.
     fn settle_line(&mut self) -> Result<(), AllocError>
         requires line { first_line self.old.begun ≡ self.old.begun }
         requires place { self.old.place ≡ Place.Line }
@@ -148,7 +148,7 @@ impl RecordedText {
         }
     }
 
-    // Gives what is held to the script, within a line of which it has the first bytes.
+    // Moves the bytes held back to the script, which already has the first bytes of their line.
     fn settle_within(&mut self) -> Result<(), AllocError>
         requires line { first_line self.old.begun ≡ self.old.begun }
         requires place { self.old.place ≡ Place.WithinLine }
@@ -162,7 +162,7 @@ impl RecordedText {
         }
     }
 
-    // Gives what is held to where it belongs. It is one line, as far as it came.
+    // Moves the bytes held back to where they belong. They are of one line, which may be incomplete.
     fn settle(&mut self) -> Result<(), AllocError>
         requires { first_line self.old.begun ≡ self.old.begun }
         ensures divides { (bytes : List ℕ) → Divides bytes self.old → OnOk result (Divides bytes self.new) }
@@ -175,7 +175,7 @@ impl RecordedText {
         }
     }
 
-    // The next part of a line.
+    // Takes the next part of a line.
     fn feed_part(&mut self, part: &[u8]) -> Result<(), AllocError>
         requires line { first_line part.now ≡ part.now }
         requires held { has_feed self.old.begun ≡ false }
@@ -192,7 +192,7 @@ impl RecordedText {
         matches!(self.place, Place::Trace)
     }
 
-    // More of the recorded trace.
+    // Takes more of the recorded trace.
     fn feed_trace(&mut self, part: &[u8]) -> Result<(), AllocError>
         requires { self.old.place ≡ Place.Trace }
         ensures divides { (bytes : List ℕ) → Divides bytes self.old → OnOk result (Divides (bytes ++ part.now) self.new) }
@@ -202,7 +202,7 @@ impl RecordedText {
         self.give_to_trace()
     }
 
-    // The next piece.
+    // Takes the next piece.
     fn feed(&mut self, piece: &[u8]) -> Result<(), AllocError>
         requires { has_feed self.old.begun ≡ false }
         ensures divides { (bytes : List ℕ) → Divides bytes self.old → OnOk result (Divides (bytes ++ piece.now) self.new) }
@@ -220,7 +220,7 @@ impl RecordedText {
         Ok(())
     }
 
-    // Gives what is held of the last line to where it belongs. It may be the line `trace` without a line feed.
+    // Moves the bytes held back of the last line to where they belong. It may be the line `trace` without a line feed.
     fn end_line(&mut self) -> Result<(), AllocError>
         requires held { has_feed self.old.begun ≡ false }
         requires place { self.old.place ≡ Place.Line }
@@ -233,7 +233,7 @@ impl RecordedText {
         }
     }
 
-    // Gives what is held to where it belongs, at the end of the source.
+    // Moves the bytes held back to where they belong at the end of the source.
     fn end(&mut self) -> Result<(), AllocError>
         requires { has_feed self.old.begun ≡ false }
         ensures { (bytes : List ℕ) → Divides bytes self.old → OnOk result (IsDivided bytes self.new) }
@@ -245,7 +245,7 @@ impl RecordedText {
         }
     }
 
-    /// The script's bytes that are looked at, and the recorded trace.
+    /// Returns the script's bytes that are looked at, and the recorded trace.
     pub fn into_parts(self) -> (ScriptText, Vec<u8>)
         ensures script { result.0 ≡ self.script }
         ensures trace { result.1.items ≡ self.trace }
@@ -254,18 +254,18 @@ impl RecordedText {
     }
 }
 
-/// The most bytes of a source with a recorded trace.
+/// The most bytes that a source with a recorded trace may have.
 const MOST_RECORDED: usize = 67_108_864;
 
-// How many bytes a source is read by.
+// The most bytes per read.
 const PIECE: usize = 4096;
 
-/// What was taken of a source: bytes and line feeds are counted, whatever the bytes are.
+/// What was consumed of a source, with the number of its bytes and line feeds, whatever the bytes are.
 #[derive(Drop)]
 pub struct Taken {
     recorded: RecordedText,
     bytes: usize,
-    // Those among the bytes within the limit.
+    // The line feeds among the bytes within the limit.
     feeds: u32,
 }
 
@@ -297,7 +297,7 @@ impl Taken {
         MOST_RECORDED + 1 - self.bytes
     }
 
-    // The next piece.
+    // Takes the next piece.
     fn take(&mut self, piece: &[u8]) -> Result<(), AllocError>
         requires more { self.old.bytes < 67108865 }
         requires room { length piece.now ≤ 67108865 - self.old.bytes }
@@ -328,7 +328,7 @@ impl Taken {
     }
 }
 
-// Takes all the bytes that the source has left.
+// Reads all the bytes that the source has left.
 fn read_pieces<S: Source>(alloc: Global, source: &mut S) -> Result<RecordedText, TextFault>
     ensures divided { IfOk result (λ it. IfSome (S.left source.old) (λ bytes. Divides bytes it)) }
     ensures held { IfOk result (λ it. has_feed it.begun ≡ false) }
@@ -356,9 +356,10 @@ fn read_pieces<S: Source>(alloc: Global, source: &mut S) -> Result<RecordedText,
 
 /// Reads a source with a recorded trace: the bytes of its script that are looked at, and the trace.
 ///
-/// - `ReadFault` only where the source's count of faults rose in this call.
-/// - `TooLong` exactly where it has more than 67,108,864 bytes: that many and one more were taken then.
-/// - `Memory` for want of memory. No other fault comes.
+/// # Errors
+/// - `ReadFault` only where the source's fault count rose in this call.
+/// - `TooLong` only where the source had more than 67,108,864 bytes left: that many and one more were consumed then.
+/// - `Memory` if an allocation fails. No other fault.
 pub fn read_recorded<S: Source>(alloc: Global, source: &mut S) -> Result<RecordedText, TextFault>
     ensures divided { IfOk result (λ it. IfSome (S.left source.old) (λ bytes. IsDivided bytes it)) }
     ensures end { OnOk result (IfSome (S.left source.old) (λ bytes. (length bytes ≤ 67108864) × (S.left source.new ≡ Some []))) }

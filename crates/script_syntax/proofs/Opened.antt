@@ -3,12 +3,13 @@ use Rattle.std.specs.List.{All}
 use Rattle.std.proofs.lemmas.List.{map-append, reverse-append}
 use Rattle.std.proofs.lemmas.List.Elements.{All-push, All-nil}
 use Rattle.std.proofs.Common.{◌≡◌, ℕ, ◌+◌, false, List, [], ◌∷◌, ◌++◌, map, reverse, refl, sym, ap, subst, ◌∙◌, cond, count_by}
+use Rattle.std.proofs.lemmas.List.Sums.{sum_by-cons}
 use Rattle.script_model.specs.Reading as model
 use Rattle.script_model.specs.Reading.{block_before}
 use Rattle.script_model.specs.Readers.{is_empty}
 use Rattle.script_model.specs.Syntax as syntax
 use Rattle.script_model.specs.Syntax.{NoMore, Then, Block}
-use Rattle.script_syntax.proofs.Reversed.{count_reversed, counted_first, reversed}
+use Rattle.script_syntax.proofs.Reversed.{count_reversed, reversed}
 use Rattle.script_syntax.specs.Allowed.{IsAllowed, ItemAllowed}
 use Rattle.script_syntax.specs.Frames.{frame_of, opening_of, OpeningAllowed, FrameAllowed}
 use Rattle.script_syntax.specs.Seen.{block_of, command_of}
@@ -32,9 +33,9 @@ outside_is (o ∷ os) = ap is_empty (reversed (frame_of o) (map frame_of os)) �
 counted : (held : List Frame) → count_by (λ frame. model.is_block frame.opening) (map frame_of held) ≡ count_by (λ o. model.is_block (opening_of o.opening)) held
 counted [] = refl
 counted (o ∷ os) =
-    counted_first (λ (frame : model.Frame). model.is_block frame.opening) (frame_of o) (map frame_of os)
+    sum_by-cons (λ (frame : model.Frame). cond (model.is_block frame.opening) 1 0) (frame_of o) (map frame_of os)
     ∙ ap (λ (n : ℕ). cond (model.is_block (opening_of o.opening)) 1 0 + n) (counted os)
-    ∙ sym (counted_first (λ (f : Frame). model.is_block (opening_of f.opening)) o os)
+    ∙ sym (sum_by-cons (λ (f : Frame). cond (model.is_block (opening_of f.opening)) 1 0) o os)
 
 pub blocks_counted : (held : List Frame) → count_by (λ frame. model.is_block frame.opening) (frames_of held) ≡ count_by (λ o. model.is_block (opening_of o.opening)) held
 blocks_counted held = count_reversed (λ (frame : model.Frame). model.is_block frame.opening) (map frame_of held) ∙ counted held

@@ -4,7 +4,7 @@ use Rattle.std.specs.Prelude.{◌||◌, bytes_eq}
 use Rattle.std.specs.List.{list_any}
 use Rattle.indexmap.specs.IndexSet.{insert_key}
 use Rattle.std.proofs.lemmas.List.{reverse-append}
-use Rattle.std.proofs.lemmas.List.Sums.{sum_by-append}
+use Rattle.std.proofs.lemmas.List.Sums.{sum_by-append, sum_by-cons}
 use Rattle.std.proofs.lemmas.List.Folds.{list_any-append}
 
 pub reversed : {A : Type 0} (x : A) (xs : List A) → reverse (x ∷ xs) ≡ reverse xs ++ (x ∷ [])
@@ -28,9 +28,6 @@ name_added names after name fresh made =
     ap reverse (made ∙ ap (λ (taken : Bool). if taken then names else names ++ name ∷ []) (sym (any_reversed (bytes_eq name) names) ∙ fresh))
     ∙ reverse-append names (name ∷ [])
 
-pub counted_first : {A : Type 0} (p : A → Bool) (x : A) (xs : List A) → count_by p (x ∷ xs) ≡ cond (p x) 1 0 + count_by p xs
-counted_first p x xs = sum_by-append (λ y. cond (p y) 1 0) (x ∷ []) xs ∙ ap (λ (n : ℕ). n + count_by p xs) (zero-add (cond (p x) 1 0))
-
 count_last : {A : Type 0} (p : A → Bool) (xs : List A) (y : A) → count_by p (xs ++ (y ∷ [])) ≡ cond (p y) 1 0 + count_by p xs
 count_last p xs y =
     sum_by-append (λ x. cond (p x) 1 0) xs (y ∷ []) ∙ ap (λ (n : ℕ). count_by p xs + n) (zero-add (cond (p y) 1 0))
@@ -40,4 +37,4 @@ pub count_reversed : {A : Type 0} (p : A → Bool) (xs : List A) → count_by p 
 count_reversed p [] = refl
 count_reversed p (x ∷ xs) =
     ap (count_by p) (reversed x xs) ∙ count_last p (reverse xs) x ∙ ap (λ (n : ℕ). cond (p x) 1 0 + n) (count_reversed p xs)
-    ∙ sym (counted_first p x xs)
+    ∙ sym (sum_by-cons (λ y. cond (p y) 1 0) x xs)

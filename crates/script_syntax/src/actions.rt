@@ -1,5 +1,5 @@
-//! Commands without a block, one function a command. Where both versions read a command alike, its function says it of
-//! each.
+//! Parsing of commands without a block, one function per command. If both versions read a command alike, the contract of its
+//! function covers each version.
 
 ghost use Rattle.std.specs.Prelude.{IfOk};
 ghost use Rattle.script_syntax.specs.Acts.{Acts, ActsAlike};
@@ -15,7 +15,7 @@ use px_units::{Point, Size};
 use std::alloc::Global;
 use text_io::Version;
 
-/// The command whose operands these words are, all of them.
+/// Parses the operands of a command, which must take up all remaining words.
 #[tactic(auto, using(crate::proofs::Alike::in_version))]
 pub fn action(
     alloc: Global,
@@ -279,8 +279,8 @@ fn ro_disconnect(words: &mut Words<'_>) -> Result<Action, LineFault>
     Ok(Action::RoDisconnect(observer))
 }
 
-/// `io NAME DOCUMENT HANDLER root ROOT margin WORD* scroll WORD* threshold NUMBER*`, where `scroll WORD*` may be left out and
-/// stands in scripts of the second version alone
+/// `io NAME DOCUMENT HANDLER root ROOT margin WORD* scroll WORD* threshold NUMBER*`, where `scroll WORD*` is optional, and
+/// only in scripts of the second version
 #[tactic(auto, unfolding(script_model::specs::Forms::made, crate::specs::Acts::Acts))]
 fn io(alloc: Global, version: Version, words: &mut Words<'_>) -> Result<Action, LineFault>
     ensures value { Acts result version verb.Io words.old }

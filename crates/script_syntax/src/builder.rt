@@ -1,4 +1,4 @@
-//! What was read so far: items, and blocks and handlers that are open.
+//! The state of the parser: the items so far, and the open blocks and handlers.
 
 ghost use Rattle.std.specs.Prelude.{◌≡◌, ◌∷◌, count_by, bytes_eq, false, reverse, IfOk};
 ghost use Rattle.std.specs.List.{list_any};
@@ -14,8 +14,8 @@ use std::alloc::{AllocError, Global};
 use std::marker::Model;
 use text_io::{LimitKind, Name, Version};
 
-/// What the lines so far make. A contract sees it as the definition's state. Where no memory is left nothing is said of
-/// it.
+/// The state of the parser after the lines so far. A contract sees the definition's state. After an allocation has failed, the
+/// state is unspecified.
 #[derive(Drop)]
 pub struct Builder {
     alloc: Global,
@@ -23,7 +23,7 @@ pub struct Builder {
     // Innermost last.
     frames: Vec<Frame>,
     items: Vec<Item>,
-    // The names of the handlers, in order. It is a set, so that a look-up is no slower among many.
+    // The names of the handlers, in order; a set, so that lookups stay fast with many of them.
     names: IndexSet<Name>,
 }
 
@@ -61,7 +61,7 @@ impl Builder {
     ghost use Rattle.script_syntax.specs.Frames.{OpeningAllowed};
     ghost use Rattle.script_syntax.specs.Statements.{statement_of, StatementAllowed, IsFreshAmong};
 
-    /// Nothing is read so far but the line with the version.
+    /// Creates the state after the line with the version.
     pub fn new(alloc: Global, version: Version) -> Builder
         ensures { result ≡ model.nothing_read version }
     {
@@ -74,7 +74,7 @@ impl Builder {
         }
     }
 
-    /// The version of the script.
+    /// Returns the version of the script.
     pub fn version(&self) -> Version
         ensures { result ≡ self.now.version }
     {
@@ -89,14 +89,14 @@ impl Builder {
         self.frames.is_empty()
     }
 
-    /// The names of the handlers so far.
+    /// Returns the names of the handlers so far.
     pub fn handlers(&self) -> &IndexSet<Name>
         ensures { reverse result.now.keys ≡ self.now.names }
     {
         &self.names
     }
 
-    /// The items, where nothing is open.
+    /// Returns the items so far, without those in blocks and handlers that are still open.
     pub fn into_items(self) -> Vec<Item>
         ensures value { reverse (map item_of result.items) ≡ self.items }
         ensures allowed { All ItemAllowed result.items }
@@ -104,7 +104,7 @@ impl Builder {
         self.items
     }
 
-    /// A line's statement takes effect. A handler has a name that none has so far.
+    /// Applies the statement of a line. The name of a handler must be new.
     #[tactic(auto, unfolding(script_model::specs::Reading::placed))]
     pub fn place(&mut self, line: u32, statement: Statement) -> Result<(), ParseFault>
         requires allowed { StatementAllowed statement }
@@ -131,7 +131,7 @@ impl Builder {
         }
     }
 
-    /// A command belongs to the innermost block or handler that is open, or is an item.
+    /// Adds a command to the innermost open block or handler, or, if there is none, to the items.
     #[tactic(auto, unfolding(script_model::specs::Reading::put), using(crate::proofs::Opened::frame_pushed, crate::proofs::Opened::command_pushed, crate::proofs::Opened::item_pushed))]
     fn put(&mut self, command: Command) -> Result<(), AllocError>
         requires { IsAllowed command }
@@ -146,7 +146,7 @@ impl Builder {
         Ok(())
     }
 
-    /// How many blocks are open, handlers not counted.
+    /// Returns the number of open blocks, not counting handlers.
     #[tactic(auto, using(crate::proofs::Opened::blocks_counted))]
     fn blocks(&self) -> usize
         ensures { result ≡ count_by (λ frame. model.is_block frame.opening) self.now.frames }
@@ -154,7 +154,7 @@ impl Builder {
         blocks_in(self.frames.as_slice())
     }
 
-    /// A block opens.
+    /// Opens a block.
     #[tactic(auto, unfolding(script_model::specs::Reading::open_block), using(crate::proofs::Opened::frame_opened))]
     fn open_block(&mut self, line: u32, opening: Opening) -> Result<(), ParseFault>
         requires { OpeningAllowed opening }
@@ -175,7 +175,7 @@ impl Builder {
         Ok(())
     }
 
-    /// A handler opens, of a name that none has so far.
+    /// Opens a handler, whose name must be new.
     #[tactic(auto, unfolding(script_model::specs::Reading::open_handler), using(crate::proofs::Opened::frame_opened))]
     fn open_handler(&mut self, line: u32, name: Name) -> Result<(), ParseFault>
         requires { list_any (bytes_eq name) self.old.names ≡ false }
@@ -197,7 +197,7 @@ impl Builder {
         Ok(())
     }
 
-    /// The innermost block or handler ends, if one is open.
+    /// Closes the innermost block or handler, if one is open.
     #[tactic(auto, unfolding(script_model::specs::Reading::close_in), using(crate::proofs::Opened::close_is))]
     fn close(&mut self, end_line: u32) -> Result<(), AllocError>
         ensures { IfOk result (λ closed. self.new ≡ model.close_in self.old.frames end_line self.old) }
@@ -218,7 +218,7 @@ impl Builder {
         Ok(())
     }
 
-    /// A block is a command where it ends, a handler an item.
+    /// Adds a block that was closed as a command, or a handler as an item.
     #[tactic(auto, unfolding(script_model::specs::Reading::closed), using(crate::proofs::Opened::item_pushed))]
     fn put_closed(&mut self, line: u32, opening: Opening, body: Body) -> Result<(), AllocError>
         requires { OpeningAllowed opening }
@@ -247,7 +247,7 @@ impl Builder {
     }
 }
 
-/// A name that isn't among these goes last.
+/// Appends a name that isn't among these yet.
 #[tactic(auto, using(crate::proofs::Reversed::name_added))]
 fn add_name(names: &mut IndexSet<Name>, name: Name) -> Result<(), AllocError>
     requires { list_any (bytes_eq name) (reverse names.old.keys) ≡ false }
@@ -257,7 +257,7 @@ fn add_name(names: &mut IndexSet<Name>, name: Name) -> Result<(), AllocError>
     Ok(())
 }
 
-/// How many of what is open are blocks.
+/// Returns how many of these frames are blocks.
 fn blocks_in(frames: &[Frame]) -> usize
     ensures { result ≡ count_by (λ frame. model.is_block (opening_of frame.opening)) frames.now }
 {

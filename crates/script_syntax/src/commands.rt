@@ -1,4 +1,4 @@
-//! Commands and the lists of them.
+//! Commands, lists of commands, handlers and items.
 
 ghost use Rattle.std.specs.Prelude.{◌≡◌};
 ghost use Rattle.std.specs.List.{All};
@@ -10,44 +10,44 @@ use std::marker::Model;
 use style_values::{Axis, Declaration};
 use text_io::{EventKind, Name};
 
-/// What a command without a block does. Operands have the names of the definition and stand in the order of the command's
-/// line. Lengths are in units of 1/64 CSS pixel, at most 64,000,000; those of `Grow`, `Scroll` and `ScrollBy` may be negative.
+/// A command without a block. Operands have the names of the definition, in the order of the command's line. Lengths are in
+/// units of 1/64 CSS pixel, at most 64,000,000; those of `Grow`, `Scroll` and `ScrollBy` may be negative.
 #[derive(Drop)]
 pub enum Action {
     /// `viewport`: sets the size of the outermost document's viewport.
     Viewport(Size),
-    /// `ratio`: sets the device pixel ratio of the page, in hundredths of a percent from 0 to 1,000,000. Scripts of the first
-    /// version don't have it.
+    /// `ratio`: sets the device pixel ratio of the page, in hundredths of a percent from 0 to 1,000,000. Only the second
+    /// version has it.
     Ratio(Percent),
-    /// `block`: makes a block.
+    /// `block`: creates a block.
     Block {
         name: Name,
         document: Name,
     },
-    /// `image`: makes an image with a natural size.
+    /// `image`: creates an image with a natural size.
     Image {
         name: Name,
         document: Name,
         size: Size,
     },
-    /// `frame`: makes a frame, with the document `inside` in it.
+    /// `frame`: creates a frame, with the document `inside` in it.
     Frame {
         name: Name,
         document: Name,
         inside: Name,
     },
-    /// `append`: puts a node last below its parent.
+    /// `append`: inserts a node as the last child of its parent.
     Append {
         parent: Operand,
         node: Operand,
     },
-    /// `before`: puts a node below its parent, before a sibling.
+    /// `before`: inserts a node as a child of its parent, before a sibling.
     Before {
         parent: Operand,
         node: Operand,
         sibling: Operand,
     },
-    /// `remove`: detaches a node.
+    /// `remove`: removes a node from its parent.
     Remove(Operand),
     /// `set`: sets a style property.
     Set {
@@ -65,7 +65,7 @@ pub enum Action {
         node: Operand,
         size: Size,
     },
-    /// `ro`: makes a resize observer; no handler for `-`.
+    /// `ro`: creates a resize observer; `handler` is `None` for `-`.
     Ro {
         name: Name,
         document: Name,
@@ -84,7 +84,7 @@ pub enum Action {
     },
     /// `ro-disconnect`
     RoDisconnect(Name),
-    /// `io`: makes an intersection observer.
+    /// `io`: creates an intersection observer.
     Io(IoMaking),
     /// `io-observe`
     IoObserve {
@@ -112,7 +112,7 @@ pub enum Action {
         event: EventKind,
         handler: Name,
     },
-    /// `media`: makes a query list.
+    /// `media`: creates a media query list.
     Media {
         name: Name,
         document: Name,
@@ -139,7 +139,7 @@ pub enum Action {
         document: Name,
         key: Name,
     },
-    /// `timer`: a callback after so many milliseconds, at most 1,000,000,000,000.
+    /// `timer`: sets a timer that is due after `delay` milliseconds, at most 1,000,000,000,000.
     Timer {
         document: Name,
         key: Name,
@@ -156,25 +156,25 @@ pub enum Action {
         document: Name,
         handler: Name,
     },
-    /// `say`: writes a word.
+    /// `say`: writes a word to the trace.
     Say(Name),
-    /// `read`: writes an element's or document's geometry.
+    /// `read`: writes the geometry of an element or a document to the trace.
     Read(Operand),
 }
 
-/// A command without a block, or a block with its commands. `tick` is neither.
+/// A command without a block, or a block with its commands. A `tick` is neither.
 #[cycle(commands)]
 #[derive(Drop)]
 pub enum What {
     /// A command without a block.
     Act(Action),
-    /// `each`: its commands for each entry of the callback.
+    /// `each`: runs its commands for each entry of the callback.
     Each(Body),
-    /// `when`: its commands if the condition holds.
+    /// `when`: runs its commands if the condition holds.
     When(Condition, Body),
 }
 
-/// A command with the number of its line, from 1.
+/// A command with its line number, from 1.
 #[cycle(commands)]
 #[derive(Drop)]
 pub struct Command {
@@ -182,7 +182,7 @@ pub struct Command {
     pub what: What,
 }
 
-/// The commands of a block, with the line of its `end`.
+/// The commands of a block, with the line number of its `end`.
 #[cycle(commands)]
 #[derive(Drop)]
 pub struct Body {
@@ -190,7 +190,7 @@ pub struct Body {
     pub end_line: u32,
 }
 
-/// The commands of a block or a handler, in order. A contract sees them as a block of commands.
+/// The commands of a block or a handler, in order. A contract sees the definition's block of commands.
 #[cycle(commands)]
 #[derive(Drop)]
 pub struct CommandList {
@@ -224,7 +224,7 @@ impl CommandList {
     ghost use Rattle.script_syntax.specs.Seen.{block_of};
     ghost use Rattle.script_syntax.specs.Allowed.{IsAllowed};
 
-    /// The list of these commands.
+    /// Creates the list of these commands.
     pub fn new(commands: Vec<Command>) -> CommandList
         requires { All IsAllowed commands.items }
         ensures { result ≡ block_of commands.items }
@@ -232,7 +232,7 @@ impl CommandList {
         CommandList { commands }
     }
 
-    /// Its commands.
+    /// Returns its commands.
     pub fn as_slice(&self) -> &[Command]
         ensures value { block_of result.now ≡ self.now }
         ensures allowed { All IsAllowed result.now }
@@ -241,7 +241,7 @@ impl CommandList {
     }
 }
 
-/// A handler with its commands, the line that it begins on and that of its `end`.
+/// A handler with its commands, and the line numbers of its first line and its `end`.
 #[derive(Drop)]
 pub struct Handler {
     pub line: u32,
@@ -250,10 +250,10 @@ pub struct Handler {
     pub end_line: u32,
 }
 
-/// What stands outside handlers and blocks.
+/// A top-level item of a script.
 #[derive(Drop)]
 pub enum Item {
-    /// A command by itself.
+    /// A command outside handlers and blocks.
     Command(Command),
     /// `tick`: sets the clock, in milliseconds, at most 1,000,000,000,000, and updates the rendering.
     Tick { line: u32, time: u64 },

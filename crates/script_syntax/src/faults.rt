@@ -1,4 +1,4 @@
-//! Why a text gives no script.
+//! Parse errors.
 
 ghost use Rattle.std.specs.Prelude.{◌≡◌};
 
@@ -6,16 +6,16 @@ use std::alloc::{AllocError, AllocFailed};
 use text_io::LimitKind;
 use thiserror::Error;
 
-/// Why a text gives no script: its first fault or limit in the order of its lines. In one line a fault of its bytes comes
-/// before one of its words, and that before the limits of blocks and handlers.
+/// Why a text isn't a script: its first fault or limit in the order of its lines. Within a line, a fault of its bytes comes
+/// before one of its words, and that before the limits on blocks and handlers.
 #[derive(Debug, Drop, Error)]
 pub enum ParseFault {
-    /// A line isn't in the grammar. The column is that of the first byte that no line may have, or of the first word that
-    /// doesn't fit, or of the first word too many, or the one after the line's last word where a word is missing. Where the
-    /// text ends with something open or without its first line, this is column 1 of the line after the last one.
-    #[error("line {line}, column {column}: not in the grammar")]
+    /// A line doesn't conform to the grammar. The column is that of the first byte that isn't allowed, or of the first word that
+    /// doesn't fit, or of the first surplus word, or the one after the line's last word where a word is missing. If the
+    /// text ends with something open or without its first line, it is column 1 of the line after the last one.
+    #[error("line {line}, column {column}: syntax error")]
     Syntax { line: u32, column: u32 },
-    /// A limit is met in this line: one of `Script`, `Line`, `Handlers` and `Nesting`.
+    /// This line meets a limit: one of `Script`, `Line`, `Handlers` and `Nesting`.
     #[error("line {line}: the limit of {} is met", .kind.text())]
     ScriptLimit { kind: LimitKind, line: u32 },
     #[error("out of memory")]
@@ -42,8 +42,8 @@ impl<T: Drop> From<AllocFailed<T>> for ParseFault {
     }
 }
 
-/// Why a line's words are no command, by the column of the first word that doesn't fit, or of the end where a word is
-/// missing.
+/// Why a line couldn't be parsed: the column of the first word that doesn't fit, or the one after the last word where a word
+/// is missing; or running out of memory.
 #[derive(Debug, Drop)]
 pub(crate) enum LineFault {
     At { column: u32 },

@@ -1,4 +1,4 @@
-//! The forms of a line's parts, one function a form. Each takes its words, and fails at the first one that doesn't fit.
+//! Parsing of single operands, one function per form. Each takes its words, and fails at the first one that doesn't fit.
 
 ghost use Rattle.std.specs.Prelude.{◌≡◌, unsigned_abs, option_map, IfOk, is_some};
 ghost use Rattle.script_model.specs.Forms.{part_as, declaration_as, NameForm, NodeForm, AimForm, HandlerForm, RootForm, LengthForm, SignedForm, PercentForm, WholeForm, EventForm, BoxForm, DimensionForm, DeclarationForm, JustForm};
@@ -21,7 +21,7 @@ use style_values::{Axis, Declaration, first_version};
 use text_io::{EventKind, Name, Version};
 use word_model::{length, percent, signed_length, whole};
 
-/// The node that a word names.
+/// Returns the node that a word names.
 #[tactic(auto, unfolding(script_model::specs::Words::node_of))]
 fn node_named(text: &[u8]) -> Option<Operand>
     ensures { option_map operand_of result ≡ node_of text.now }
@@ -32,7 +32,7 @@ fn node_named(text: &[u8]) -> Option<Operand>
     Name::read(text).map(Operand::Named)
 }
 
-/// The aim that a word names.
+/// Returns the event target that a word names.
 #[tactic(auto, unfolding(script_model::specs::Words::aim_of))]
 fn aim_named(text: &[u8]) -> Option<Aim>
     ensures { option_map aim_of result ≡ aim_read text.now }
@@ -45,7 +45,7 @@ fn aim_named(text: &[u8]) -> Option<Aim>
     node_named(text).map(Aim::Plain)
 }
 
-/// Whether a version has what `first` is the first version to have, None for what none has.
+/// Whether a version has something that was introduced in version `first`, or, for `None`, in no version.
 fn has(version: Version, first: Option<Version>) -> bool
     ensures { result ≡ reads version first }
 {
@@ -87,7 +87,7 @@ impl Words<'_> {
         node_named(word.text).ok_or(word.fault())
     }
 
-    /// A node, a document or a query list by its name, or `@` and the name of a document.
+    /// A node, a document or a media query list by its name, or `@` and the name of a document for its window
     #[tactic(auto, unfolding(script_model::specs::Forms::part_as))]
     pub fn aim(&mut self) -> Result<Aim, LineFault>
         ensures { Gives (λ aim. (aim_of aim, self.new)) result (part_as AimForm self.old) }
@@ -99,7 +99,7 @@ impl Words<'_> {
         }
     }
 
-    /// The name of a handler, or `-` for none.
+    /// The name of a handler, or `-` for none
     #[tactic(auto, unfolding(script_model::specs::Forms::part_as))]
     pub fn handler(&mut self) -> Result<Option<Name>, LineFault>
         ensures { Gives (λ handler. (handler, self.new)) result (part_as HandlerForm self.old) }
@@ -112,7 +112,7 @@ impl Words<'_> {
         Ok(Some(name))
     }
 
-    /// NODE, or `-` for the implicit root.
+    /// NODE, or `-` for the implicit root
     #[tactic(auto, unfolding(script_model::specs::Forms::part_as))]
     pub fn root(&mut self) -> Result<Option<Operand>, LineFault>
         ensures { Gives (λ root. (option_map operand_of root, self.new)) result (part_as RootForm self.old) }
@@ -195,7 +195,7 @@ impl Words<'_> {
         tables::axis(word.text).ok_or(word.fault())
     }
 
-    /// A property that scripts of this version have, and a value that it has.
+    /// A property that this version has, and a valid value
     #[tactic(auto, unfolding(script_model::specs::Forms::part_as, script_model::specs::Forms::declaration_as))]
     pub fn declaration(&mut self, version: Version) -> Result<Declaration, LineFault>
         ensures value { Gives (λ declaration. (seen_declaration declaration, self.new)) result (part_as (DeclarationForm version) self.old) }
@@ -212,7 +212,7 @@ impl Words<'_> {
         }
     }
 
-    /// This word.
+    /// This word
     #[tactic(auto, unfolding(script_model::specs::Forms::part_as))]
     pub fn just(&mut self, word: &[u8]) -> Result<(), LineFault>
         ensures { Gives (λ said. (tt, self.new)) result (part_as (JustForm word.now) self.old) }

@@ -1,4 +1,4 @@
-//! Blocks and handlers that are open.
+//! Open blocks and handlers.
 
 ghost use Rattle.std.specs.Prelude.{◌≡◌};
 ghost use Rattle.script_model.specs.Reading as model;
@@ -8,7 +8,7 @@ use crate::commands::Command;
 use crate::operands::Condition;
 use text_io::Name;
 
-/// What a line opened that an `end` will close.
+/// What a line opened, for an `end` to close.
 #[derive(Clone, Copy)]
 pub enum Opening {
     Each,
@@ -17,6 +17,7 @@ pub enum Opening {
 }
 
 impl Opening {
+    /// Whether this is a block, not a handler.
     pub fn is_block(&self) -> bool
         ensures { result ≡ model.is_block (opening_of self.now) }
     {
@@ -28,7 +29,7 @@ impl Opening {
     }
 }
 
-/// Something open, with the line that opened it and the commands so far.
+/// An open block or handler, with the line that opened it and the commands so far.
 #[derive(Drop)]
 pub struct Frame {
     pub line: u32,

@@ -1,4 +1,4 @@
-//! What the first words of lines and conditions begin.
+//! What the first words of lines and conditions introduce.
 
 /// A command without a block.
 #[derive(Clone, Copy)]
@@ -37,7 +37,7 @@ pub enum Verb {
     Read,
 }
 
-/// What a line is, by its first word.
+/// The kind of a line, given by its first word.
 #[derive(Clone, Copy)]
 pub enum Head {
     Act(Verb),
@@ -48,7 +48,7 @@ pub enum Head {
     End,
 }
 
-/// What a condition asks, by its first word.
+/// The kind of a condition, given by its first word.
 #[derive(Clone, Copy)]
 pub enum Shape {
     Wider,

@@ -1,4 +1,4 @@
-//! Where the handlers of a script are.
+//! An index of the handlers of a script.
 
 ghost use Rattle.std.specs.Prelude.{map, IfOk, bytes_eq};
 ghost use Rattle.indexmap.specs.IndexMap.{get};
@@ -10,14 +10,14 @@ use indexmap::IndexMap;
 use std::alloc::{AllocError, Global};
 use text_io::Name;
 
-/// The places of the handlers among the items, in their order, and the number of each by its name.
+/// The positions of the handlers among the items, in order, and the number of each by its name.
 #[derive(Drop)]
 pub struct Index {
     pub places: Vec<usize>,
     pub numbers: IndexMap<Name, u32>,
 }
 
-/// The handlers of these items.
+/// Indexes the handlers of these items.
 #[tactic(auto, using(crate::proofs::Handlers::all_noted))]
 pub fn index_of(alloc: Global, items: &[Item]) -> Result<Index, AllocError>
     ensures { IfOk result (λ index. Indexed (map item_of items.now) index.places.items (get bytes_eq index.numbers)) }
@@ -34,7 +34,7 @@ pub fn index_of(alloc: Global, items: &[Item]) -> Result<Index, AllocError>
     Ok(index)
 }
 
-/// A handler of this name stands at this place, behind those that were noted.
+/// Adds a handler of this name and position, which comes after those added so far.
 fn note(index: &mut Index, place: usize, name: Name) -> Result<(), AllocError>
     ensures { IfOk result (λ noted. Noted place name index.old.places.items (get bytes_eq index.old.numbers) index.new.places.items (get bytes_eq index.new.numbers)) }
 {

@@ -1,4 +1,4 @@
-//! Scripts: the commands and handlers of a text, read from its lines and words.
+//! Scripts as values, parsed from the lines and words of a text.
 #![tactic(auto)]
 
 mod actions;

@@ -1,4 +1,4 @@
-//! The parts of a line that have more than one word: margins, numbers and media queries.
+//! Parsing the parts of a line that can have several words: margins, numbers and media queries.
 
 ghost use Rattle.std.specs.Prelude.{◌≡◌};
 ghost use Rattle.script_model.specs.Forms.{part_as, margin_as, scroll_as, MarginForm, NumbersForm, QueryForm};
@@ -13,7 +13,7 @@ use text_io::Version;
 use word_model::number;
 
 impl Words<'_> {
-    /// A margin and the scroll margin, if there is one.
+    /// Parses a root margin, and a scroll margin if there is one.
     #[tactic(auto, unfolding(script_model::specs::Forms::part_as, script_model::specs::Forms::margins_as))]
     pub fn margins(
         &mut self,
@@ -27,7 +27,7 @@ impl Words<'_> {
         Ok((margin, scroll))
     }
 
-    /// `scroll` and the words of a margin, where that word stands next, in scripts of the second version.
+    /// Parses `scroll` and the words of a margin, if that word comes next and the script is of the second version.
     #[tactic(auto, unfolding(script_model::specs::Forms::scroll_as))]
     fn scroll(&mut self, alloc: Global, version: Version) -> Result<Option<MarginText>, LineFault>
         ensures { Gives (λ text. (text, self.new)) result (scroll_as version self.old) }
@@ -44,7 +44,7 @@ impl Words<'_> {
         }
     }
 
-    /// The words of a margin, joined by one space.
+    /// Parses the words of a margin, which it joins with single spaces.
     #[tactic(auto, unfolding(script_model::specs::Forms::margin_as), using(crate::proofs::Joined::joined))]
     fn margin(&mut self, alloc: Global, version: Version) -> Result<MarginText, LineFault>
         ensures { Gives (λ text. (text, self.new)) result (margin_as version self.old) }
@@ -60,7 +60,7 @@ impl Words<'_> {
         Ok(MarginText::new(bytes))
     }
 
-    /// All words that are left, each a NUMBER.
+    /// Parses all remaining words, each a NUMBER.
     #[tactic(auto, unfolding(script_model::specs::Forms::part_as, script_model::specs::Forms::numbers_as, script_model::specs::Forms::numbers_of))]
     pub fn numbers(&mut self, alloc: Global) -> Result<NumberList, LineFault>
         ensures { Gives (λ list. (list, self.new)) result (part_as NumbersForm self.old) }
@@ -73,8 +73,8 @@ impl Words<'_> {
         Ok(NumberList::new(numbers))
     }
 
-    /// A media query list, from the next word to the end of the line's last one. The fault is at the byte that ends the
-    /// list's beginning.
+    /// Parses a media query list, from the next word to the end of the line's last one. The fault is at the byte with which
+    /// the text is no longer the beginning of a list.
     #[tactic(auto, using(crate::proofs::Queries::query_missing))]
     pub fn query(&mut self, alloc: Global) -> Result<Query, LineFault>
         ensures { Gives (λ query. (query, self.new)) result (part_as QueryForm self.old) }

@@ -1,4 +1,4 @@
-//! A text's lines and words as a script.
+//! Parsing a text's lines and words as a script.
 
 ghost use Rattle.std.specs.Prelude.{◌≡◌, ◌≤◌, map, length, count_by, ◌==◌, IfOk, IfErr};
 ghost use Rattle.std.specs.List.{All};
@@ -22,12 +22,12 @@ use script_lexer::{LexFault, Line, Text};
 use std::alloc::Global;
 use text_io::{LimitKind, Version};
 
-/// The script that a text is, which a lexer read with lines of at most 4,096 bytes.
+/// Parses a text, which must have been lexed with lines of at most 4,096 bytes, as a script.
 ///
 /// # Errors
-/// `Syntax` and `ScriptLimit` exactly where the text is no script, the first in the text. The limit `Script` is met
-/// before any line is looked at, where the text has more than 16,777,216 bytes; its line is 1 more than the number of line
-/// feeds in that many bytes. `Memory` where no memory is left.
+/// `Syntax` and `ScriptLimit` where the text isn't a script; it is the first fault or limit of the text. The limit `Script` is
+/// met before any line is looked at, if the text has more than 16,777,216 bytes; its line is 1 more than the number of line
+/// feeds in that many bytes. `Memory` if an allocation fails.
 #[tactic(auto, unfolding(script_model::specs::Reading::reading), using(crate::proofs::Finishes::ends_soon))]
 pub fn parse(alloc: Global, text: &Text) -> Result<Script, ParseFault>
     requires { text_seen text.now ≡ lexed text.now.bytes }
@@ -49,7 +49,7 @@ pub fn parse(alloc: Global, text: &Text) -> Result<Script, ParseFault>
     Ok(script)
 }
 
-/// The line of the first byte that a text has too many.
+/// Returns the line of the first byte beyond the limit of a text.
 #[tactic(auto, unfolding(script_model::specs::Reading::last_line))]
 fn last_line(bytes: &[u8]) -> u32
     requires { common_limit limits.Script ≤ length bytes.now }
@@ -60,7 +60,7 @@ fn last_line(bytes: &[u8]) -> u32
     1 + feeds as u32
 }
 
-/// How many line feeds are among the bytes.
+/// Returns the number of line feeds among the bytes.
 fn feeds(bytes: &[u8]) -> usize
     requires { length bytes.now ≤ 16777216 }
     ensures value { result ≡ count_by (λ byte. byte == 10) bytes.now }
@@ -69,7 +69,7 @@ fn feeds(bytes: &[u8]) -> usize
     bytes.iter().filter(|byte| **byte == b'\n').count()
 }
 
-/// The version and the items of a text with at most 16,777,216 bytes.
+/// Parses the version and the items of a text with at most 16,777,216 bytes.
 #[tactic(auto, unfolding(script_model::specs::Reading::read_lexed))]
 fn read_text(alloc: Global, text: &Text) -> Result<(Version, Vec<Item>), ParseFault>
     requires short { length text.now.bytes ≤ 16777216 }
@@ -98,7 +98,7 @@ fn read_text(alloc: Global, text: &Text) -> Result<(Version, Vec<Item>), ParseFa
     finish(text, builder)
 }
 
-/// What the lines behind the first one make.
+/// Parses the lines after the first one.
 #[tactic(auto, unfolding(script_model::specs::Reading::steps))]
 fn read_lines(
     alloc: Global,
@@ -119,7 +119,7 @@ fn read_lines(
     Ok(builder)
 }
 
-/// A line takes effect.
+/// Parses a line, and applies it to the state.
 #[tactic(auto, unfolding(script_model::specs::Reading::step))]
 fn read_line(
     alloc: Global,
@@ -144,7 +144,7 @@ fn read_line(
     }
 }
 
-/// The version and the items, if nothing is open and the text ends whole.
+/// Returns the version and the items, if nothing is open and the text ended without a fault.
 #[tactic(auto, using(crate::proofs::Finishes::finished_whole, crate::proofs::Finishes::finished_open, crate::proofs::Finishes::finished_fault))]
 fn finish(text: &Text, builder: Builder) -> Result<(Version, Vec<Item>), ParseFault>
     requires { EndsSoon text.now }
@@ -161,7 +161,7 @@ fn finish(text: &Text, builder: Builder) -> Result<(Version, Vec<Item>), ParseFa
     Ok((version, builder.into_items()))
 }
 
-/// Why a text is no script, of which nothing is refused up to its ending.
+/// Returns why a text isn't a script, if all its lines up to the ending were accepted.
 fn refusal(text: &Text) -> ParseFault
     requires { EndsSoon text.now }
     ensures { IsRefused result (refused_at (ending_seen text.now.fault text.now.line_count)) }

@@ -1,4 +1,4 @@
-//! A script.
+//! Scripts.
 
 ghost use Rattle.std.specs.Prelude.{◌≡◌, map, length, filter, option_map, slice_get, IfOk};
 ghost use Rattle.std.specs.List.{All};
@@ -14,8 +14,8 @@ use std::alloc::{AllocError, Global};
 use std::marker::Model;
 use text_io::{Name, Version};
 
-/// A script: its version, its items in the order of their lines, and its handlers, which are numbered from 0 in that order. A
-/// contract sees it as the definitions' record of the version and the items.
+/// A script: its version, its items in the order of their lines, and its handlers, numbered from 0 in that order. A
+/// contract sees the definition's record of the version and the items.
 #[derive(Drop)]
 pub struct Script {
     version: Version,
@@ -48,9 +48,9 @@ impl Model for Script {
 }
 
 impl Script {
-    /// The script of the first version with these items, which are those of some text: operands, nesting, the names of handlers,
-    /// line numbers and lengths of lines are as the grammar wants them. Which items these are stands in `script_text`, whose laws
-    /// give the text. The error is want of memory.
+    /// Creates the script of the first version with these items. They must be those of some text: operands, nesting, the names of
+    /// handlers, line numbers and lengths of lines must be as the grammar requires. `script_text` defines which items these are,
+    /// and its laws give the text. Fails only if an allocation fails.
     pub fn build(alloc: Global, items: Vec<Item>) -> Result<Script, AllocError>
         requires allowed { All ItemAllowed items.items }
         requires read { IsRead (record { version = First; items = map item_of items.items }) }
@@ -59,7 +59,7 @@ impl Script {
         Script::make(alloc, Version::First, items)
     }
 
-    /// The script of this version with these items. The error is want of memory.
+    /// Creates the script of this version with these items. Fails only if an allocation fails.
     pub(crate) fn make(
         alloc: Global,
         version: Version,
@@ -77,14 +77,14 @@ impl Script {
         })
     }
 
-    /// The version of the language that it is written in.
+    /// Returns the version of the language that the script is written in.
     pub fn version(&self) -> Version
         ensures { result ≡ self.now.version }
     {
         self.version
     }
 
-    /// The items in the order of their lines. They are those of some text.
+    /// Returns the items in the order of their lines. They are those of some text.
     pub fn items(&self) -> &[Item]
         ensures value { map item_of result.now ≡ self.now.items }
         ensures read { IsRead self.now }
@@ -93,7 +93,7 @@ impl Script {
         self.items.as_slice()
     }
 
-    /// How many handlers there are.
+    /// Returns the number of handlers.
     #[tactic(auto, using(crate::proofs::Handlers::handler_count))]
     pub fn handlers(&self) -> u32
         ensures { result ≡ length (handlers_in self.now.items) }
@@ -101,7 +101,7 @@ impl Script {
         self.index.places.len() as u32
     }
 
-    /// The handler of this number, none exactly where the number isn't below `handlers`.
+    /// Returns the handler of this number, or `None` exactly if the number isn't less than `handlers`.
     pub fn handler(&self, number: u32) -> Option<&Handler>
         ensures value { option_map (λ handler. handler_of handler.now) result ≡ slice_get (handlers_in self.now.items) number }
         ensures item { option_map (λ handler. handler_item handler.now) result ≡ slice_get (filter is_handler self.now.items) number }
@@ -113,7 +113,7 @@ impl Script {
         }
     }
 
-    /// The number of the handler of this name, none exactly where there is none.
+    /// Returns the number of the handler of this name, or `None` exactly if there is none.
     pub fn handler_named(&self, name: Name) -> Option<u32>
         ensures { result ≡ handler_number self.now.items name }
     {

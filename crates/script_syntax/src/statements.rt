@@ -1,4 +1,4 @@
-//! What one line says.
+//! Parsing of single lines.
 
 ghost use Rattle.std.specs.Prelude.{◌≡◌, cond, false, not, option_map, Some, None, IfOk, IfSome, bytes_eq, reverse};
 ghost use Rattle.std.specs.List.{list_any};
@@ -25,7 +25,7 @@ use indexmap::IndexSet;
 use std::alloc::Global;
 use text_io::{Name, Version};
 
-/// What a line does.
+/// A parsed line.
 #[derive(Drop)]
 pub enum Statement {
     /// A command without a block.
@@ -34,12 +34,12 @@ pub enum Statement {
     OpensEach,
     OpensWhen(Condition),
     OpensHandler(Name),
-    /// It closes the innermost block or handler.
+    /// Closes the innermost block or handler.
     Ends,
 }
 
-/// What a line of a script of this version says that stands outside handlers and blocks, or inside; `handlers` are the names that handlers have
-/// already.
+/// Parses a line of a script of this version. `outside` says whether the line is outside handlers and blocks; `handlers` are the names of
+/// the handlers so far.
 #[tactic(auto, unfolding(script_model::specs::Statements::statement_of))]
 pub fn read_statement(
     alloc: Global,
@@ -56,7 +56,7 @@ pub fn read_statement(
     operands(alloc, version, head, handlers, words)
 }
 
-/// Whether a line that stands outside handlers and blocks, or inside, may begin so.
+/// Whether a line outside handlers and blocks, or inside, may begin like this.
 #[tactic(auto, unfolding(script_model::specs::Statements::permitted))]
 fn is_permitted(outside: bool, head: Head) -> bool
     ensures { (version : Version) → model.permitted outside (head_of version head) ≡ cond result (Some (head_of version head)) None }
@@ -69,7 +69,7 @@ fn is_permitted(outside: bool, head: Head) -> bool
     }
 }
 
-/// What a line begins by this word.
+/// Returns the kind of line that this word introduces, if it is allowed here.
 #[tactic(auto, unfolding(script_model::specs::Statements::head_of))]
 fn permitted_head(version: Version, outside: bool, word: &[u8]) -> Option<Head>
     ensures { option_map (head_of version) result ≡ model.head_of version outside word.now }
@@ -89,7 +89,7 @@ fn head(version: Version, outside: bool, words: &mut Words<'_>) -> Result<Head, 
     permitted_head(version, outside, word.text).ok_or(word.fault())
 }
 
-/// What follows the first word of a line.
+/// Parses what follows the first word of a line.
 #[tactic(auto, unfolding(script_model::specs::Statements::operands_of, crate::specs::Acts::Acts))]
 fn operands(
     alloc: Global,
@@ -128,7 +128,7 @@ fn operands(
     }
 }
 
-/// `handler NAME`, of a name that no handler has.
+/// `handler NAME`, with a name that no handler has yet
 #[tactic(auto, unfolding(script_model::specs::Statements::handler_as))]
 fn handler(handlers: &IndexSet<Name>, words: &mut Words<'_>) -> Result<Statement, LineFault>
     ensures value { Gives statement_of result (model.handler_as (reverse handlers.now.keys) words.old) }
@@ -141,7 +141,7 @@ fn handler(handlers: &IndexSet<Name>, words: &mut Words<'_>) -> Result<Statement
     Ok(Statement::OpensHandler(name))
 }
 
-/// A name that no handler has.
+/// Returns the word as a name, if it is one that no handler has yet.
 #[tactic(auto, unfolding(script_model::specs::Statements::fresh_name_of), using(crate::proofs::Reversed::any_reversed))]
 fn fresh_name(handlers: &IndexSet<Name>, word: &[u8]) -> Option<Name>
     ensures value { result ≡ model.fresh_name_of (reverse handlers.now.keys) word.now }
@@ -154,7 +154,7 @@ fn fresh_name(handlers: &IndexSet<Name>, word: &[u8]) -> Option<Name>
     Some(name)
 }
 
-/// `not`, if it stands there, and a test.
+/// Parses an optional `not` and a test.
 #[tactic(auto, unfolding(script_model::specs::Statements::condition_as), using(crate::proofs::NextWords::negation_taken))]
 fn condition(words: &mut Words<'_>) -> Result<Condition, LineFault>
     ensures value { Gives condition_of result (model.condition_as words.old) }
@@ -174,7 +174,7 @@ fn shape(words: &mut Words<'_>) -> Result<Shape, LineFault>
     tables::test(word.text).ok_or(word.fault())
 }
 
-/// The test whose operands these words are, all of them.
+/// Parses the operands of a test, which must take up all remaining words.
 #[tactic(auto, unfolding(script_model::specs::Statements::test_in))]
 fn asked(shape: Shape, words: &mut Words<'_>) -> Result<Test, LineFault>
     ensures value { Gives test_of result (model.test_in (shape_of shape) words.old) }
@@ -210,7 +210,7 @@ fn asked(shape: Shape, words: &mut Words<'_>) -> Result<Test, LineFault>
     }
 }
 
-/// `script 1` or `script 2`, the first line.
+/// `script 1` or `script 2`, the first line
 #[tactic(auto, unfolding(script_model::specs::Statements::version_as, script_model::specs::Forms::part_as))]
 pub fn version(words: &mut Words<'_>) -> Result<Version, LineFault>
     ensures { Gives (λ version. version) result (model.version_as words.old) }
@@ -221,7 +221,7 @@ pub fn version(words: &mut Words<'_>) -> Result<Version, LineFault>
     Ok(version)
 }
 
-/// The word for a version.
+/// Parses the word for a version.
 #[tactic(auto, unfolding(script_model::specs::Forms::word_as), using(script_model::proofs::Keyed::version_named))]
 fn version_word(words: &mut Words<'_>) -> Result<Version, LineFault>
     ensures { Gives (λ version. (version, words.new)) result (word_as (lookup versions) words.old) }

@@ -1,4 +1,4 @@
-//! Fixed words and what each stands for.
+//! Fixed words and their values.
 
 ghost use Rattle.std.specs.Prelude.{◌≡◌, option_map};
 ghost use Rattle.text_io.specs.declared.kinds.Version.{Version};
@@ -14,7 +14,7 @@ use px_units::BoxKind;
 use style_values::{Axis, lookup};
 use text_io::Version;
 
-// Those before the last one are the boxes of the first version.
+// The first version has all but the last.
 const BOXES: [(&[u8], BoxKind); 3] = [
     (b"content", BoxKind::Content),
     (b"border", BoxKind::Border),
@@ -31,7 +31,7 @@ const TESTS: [(&[u8], Shape); 5] = [
     (b"seen", Shape::Seen),
 ];
 
-// Those of both versions.
+// The first words of lines in both versions.
 const HEADS: [(&[u8], Head); 36] = [
     (b"viewport", Head::Act(Verb::Viewport)),
     (b"block", Head::Act(Verb::Block)),
@@ -71,7 +71,7 @@ const HEADS: [(&[u8], Head); 36] = [
     (b"end", Head::End),
 ];
 
-/// The box that this word names in scripts of this version.
+/// Returns the box that this word names in scripts of this version.
 pub fn box_kind(version: Version, word: &[u8]) -> Option<BoxKind>
     ensures { result ≡ lookup (boxes version) word.now }
 {
@@ -81,28 +81,28 @@ pub fn box_kind(version: Version, word: &[u8]) -> Option<BoxKind>
     }
 }
 
-/// The dimension that this word names.
+/// Returns the dimension that this word names.
 pub fn axis(word: &[u8]) -> Option<Axis>
     ensures { option_map seen_axis result ≡ lookup dimensions word.now }
 {
     lookup(&AXES, word)
 }
 
-/// The test that this word begins.
+/// Returns the kind of test that this word introduces.
 pub fn test(word: &[u8]) -> Option<Shape>
     ensures { option_map shape_of result ≡ lookup tests word.now }
 {
     lookup(&TESTS, word)
 }
 
-/// What this word begins as the first of a line, in scripts of either version.
+/// Returns the kind of line that this word introduces in both versions.
 fn head_of_both(word: &[u8]) -> Option<Head>
     ensures { (version : Version) → option_map (head_of version) result ≡ lookup (heads version) word.now }
 {
     lookup(&HEADS, word)
 }
 
-/// What this word begins as the first of a line, in scripts of the second version.
+/// Returns the kind of line that this word introduces in the second version.
 #[tactic(auto, using(crate::proofs::Lookups::found_first, crate::proofs::Lookups::passed_first))]
 fn head_of_second(word: &[u8]) -> Option<Head>
     ensures { option_map (head_of Second) result ≡ lookup (heads_in Second) word.now }
@@ -113,7 +113,7 @@ fn head_of_second(word: &[u8]) -> Option<Head>
     head_of_both(word)
 }
 
-/// What this word begins as the first of a line, in scripts of this version.
+/// Returns the kind of line that this word introduces in this version.
 pub fn head(version: Version, word: &[u8]) -> Option<Head>
     ensures { option_map (head_of version) result ≡ lookup (heads_in version) word.now }
 {

@@ -1,10 +1,10 @@
-//! Lists of bytes and numbers in commands.
+//! Margins and lists of numbers in commands.
 
 ghost use Rattle.std.specs.Prelude.{◌≡◌};
 
 use std::marker::Model;
 
-/// The words of a root margin, joined by one space. A contract sees it as its bytes.
+/// The words of a root margin or scroll margin, joined with single spaces. A contract sees its bytes.
 #[derive(Drop)]
 pub struct MarginText {
     bytes: Vec<u8>,
@@ -19,14 +19,14 @@ impl Model for MarginText {
 }
 
 impl MarginText {
-    /// The text with these bytes.
+    /// Creates the text with these bytes.
     pub fn new(bytes: Vec<u8>) -> MarginText
         ensures { result ≡ bytes.items }
     {
         MarginText { bytes }
     }
 
-    /// Its bytes.
+    /// Returns its bytes.
     pub fn as_slice(&self) -> &[u8]
         ensures { result.now ≡ self.now }
     {
@@ -34,7 +34,7 @@ impl MarginText {
     }
 }
 
-/// Numbers in ten-thousandths. A contract sees it as the list of them.
+/// A list of numbers in ten-thousandths. A contract sees the list.
 #[derive(Drop)]
 pub struct NumberList {
     numbers: Vec<i64>,
@@ -49,14 +49,14 @@ impl Model for NumberList {
 }
 
 impl NumberList {
-    /// The list of these numbers.
+    /// Creates the list of these numbers.
     pub fn new(numbers: Vec<i64>) -> NumberList
         ensures { result ≡ numbers.items }
     {
         NumberList { numbers }
     }
 
-    /// Its numbers.
+    /// Returns its numbers.
     pub fn as_slice(&self) -> &[i64]
         ensures { result.now ≡ self.now }
     {

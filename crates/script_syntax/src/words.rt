@@ -1,4 +1,4 @@
-//! The words of a line, taken from left to right.
+//! The words of a line, consumed from left to right.
 
 ghost use Rattle.std.specs.Prelude.{◌≡◌, ◌≤◌, length, IfOk, IfErr};
 ghost use Rattle.script_lexer.specs.Texts.{line_seen, LineFits};
@@ -18,7 +18,7 @@ pub struct Word<'a> {
 }
 
 impl Word<'_> {
-    /// The fault that it is the first word that doesn't fit.
+    /// Returns the fault that this is the first word that doesn't fit.
     pub fn fault(&self) -> LineFault
         ensures { result ≡ LineFault.At self.now.column }
     {
@@ -28,7 +28,7 @@ impl Word<'_> {
     }
 }
 
-/// Whether a margin ends before this word, in scripts of this version.
+/// Whether a margin ends before this word in scripts of this version.
 fn ends_margin(version: Version, word: &[u8]) -> bool
     ensures { result ≡ ends_margin_at version word.now }
 {
@@ -38,16 +38,16 @@ fn ends_margin(version: Version, word: &[u8]) -> bool
     }
 }
 
-/// The words of a line that are left. A contract sees them as the definition's row.
+/// The remaining words of a line. A contract sees the definition's row.
 #[derive(Drop)]
 pub struct Words<'a> {
     bytes: &'a [u8],
-    // Where the line begins.
+    // The offset where the line begins.
     start: usize,
     left: &'a [Span],
     // The column after the line's last word.
     after: u32,
-    // The line's bytes up to there.
+    // The line's bytes up to that column.
     line: &'a [u8],
 }
 
@@ -66,7 +66,7 @@ impl<'a> Model for Words<'a> {
 impl<'a> Words<'a> {
     ghost use Rattle.script_syntax.specs.Words.{word_of};
 
-    /// The words of one of a text's lines.
+    /// Returns the words of one of a text's lines.
     #[tactic(auto, using(crate::proofs::LastWords::after_last, crate::proofs::LastWords::last_inside))]
     pub fn of(text: &'a Text, line: &Line) -> Words<'a>
         requires short { length text.now.bytes ≤ 16777216 }
@@ -94,7 +94,7 @@ impl<'a> Words<'a> {
         }
     }
 
-    /// The next word. The fault is that there is none.
+    /// Takes the next word. Fails if there is none.
     #[tactic(auto, using(crate::proofs::NextWords::next_taken, crate::proofs::NextWords::next_missing))]
     pub fn next(&mut self) -> Result<Word<'a>, LineFault>
         ensures { Gives (λ word. (word_of word, self.new)) result (next_of self.old) }
@@ -103,7 +103,7 @@ impl<'a> Words<'a> {
         self.pop().ok_or(missing)
     }
 
-    /// No word is left. The fault is at the first one that is.
+    /// Checks that no word is left. The fault is at the first one that is.
     #[tactic(auto, unfolding(script_model::specs::Forms::none_left))]
     pub fn end(&mut self) -> Result<(), LineFault>
         ensures { Gives (λ end. tt) result (none_left self.old) }
@@ -116,7 +116,7 @@ impl<'a> Words<'a> {
         }
     }
 
-    /// The next word, if there is one.
+    /// Takes the next word, if there is one.
     pub fn pop(&mut self) -> Option<Word<'a>>
         ensures { Popped result self.old self.new }
     {
@@ -130,7 +130,7 @@ impl<'a> Words<'a> {
         })
     }
 
-    /// The next word, if there is one and it is a margin's.
+    /// Takes the next word, if there is one and it belongs to a margin.
     #[tactic(auto, unfolding(script_model::specs::Forms::words_before, script_model::specs::Forms::words_from))]
     pub fn next_of_margin(&mut self, version: Version) -> Option<&'a [u8]>
         ensures { NextBefore (ends_margin_at version) result self.old self.new }
@@ -146,7 +146,7 @@ impl<'a> Words<'a> {
         Some(text)
     }
 
-    /// Whether the next word is this one, which is taken then.
+    /// Takes the next word if it is this one, and returns whether it was.
     pub fn take_if(&mut self, word: &[u8]) -> bool
         ensures { taken_in word.now self.old.left self.old ≡ (result, self.new) }
     {
@@ -160,8 +160,8 @@ impl<'a> Words<'a> {
         false
     }
 
-    /// The line's text from the next word to the end of its last one, with that word's column; no word is left then. Where
-    /// there is no word, the column after the line's last one.
+    /// Takes all remaining words: returns the line's text from the next word to the end of the last one, with the column of
+    /// the next word. If no word is left, the error is the column after the line's last word.
     pub fn rest(&mut self) -> Result<Word<'a>, u32>
         ensures ok { IfOk result (λ rest. rest_of self.old ≡ Ok (rest.column, rest.text.now, self.new)) }
         ensures err { IfErr result (λ column. rest_of self.old ≡ Err column) }

@@ -10,8 +10,9 @@ use Rattle.text_io.specs.declared.kinds.LimitKind.TheVariants as limits
 use Rattle.text_io.specs.Limits.{common_limit}
 use Rattle.script_model.specs.Lexing.{Word, Line, BadByte, LongLine, Whole, Lexed, line_start, ends, lex_on, lexed}
 use Rattle.script_model.specs.Lines.{is_line_byte, words_of, row_of, line_with}
+use Rattle.script_model.proofs.LineEnds.{nothing_more}
 use Rattle.script_text.proofs.WordBytes.{all_bytes}
-use Rattle.script_text.proofs.TextLines.{LineFeedLaw, LastLineLaw, nothing_more, no_words, no_line}
+use Rattle.script_text.proofs.TextLines.{LineFeedLaw, LastLineLaw, no_words, no_line}
 use Rattle.script_text.proofs.LinesHeld.{TextLine, Wordless, Worded, fed, lines_behind, AreFeedless, AreTextLines}
 use Rattle.script_text.proofs.StepsKept.{IsWhole}
 

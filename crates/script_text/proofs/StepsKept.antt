@@ -10,15 +10,12 @@ use Rattle.script_model.specs.Lexing.{Line, Ending, Whole, BadByte, LongLine}
 use Rattle.script_model.specs.Lines.{words_of, row_of}
 use Rattle.script_model.specs.Statements.{Statement, statement_of, version_as}
 use Rattle.script_model.specs.Reading.{SyntaxAt, Frame, State, nothing_read, placed, standing, step, steps, finished, read_lines}
+use Rattle.script_model.proofs.Impossible.{bind_ok}
 use Rattle.script_text.specs.NumberedLines.{NumberedLine, numbered}
 use Rattle.script_text.specs.ScriptText.{line_text}
 use Rattle.script_text.proofs.LinesHeld.{TextLine, Wordless, Worded, lines_behind, AreTextLines, Prints}
 use Rattle.script_text.proofs.StateKept.{IsKeptState, state_lines, Follows, placed_follows}
 use Rattle.script_text.proofs.ReadStatements.{statement_words, StatementRead, statement_read, version_long}
-
-pub bind_ok : {A B E : Type 0} (r : Result A E) (f : A → Result B E) (y : B) → (r >>= f) ≡ Ok y → (x : A) × (r ≡ Ok x) × (f x ≡ Ok y)
-bind_ok (Ok x) f y h = (x, refl, h)
-bind_ok (Err e) f y h = absurd cc
 
 pub fault_ok : {A E F : Type 0} (seen : E → F) (r : Result A E) (x : A) → with_fault seen r ≡ Ok x → r ≡ Ok x
 fault_ok seen (Ok y) x h = cc

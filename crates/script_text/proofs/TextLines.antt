@@ -5,8 +5,9 @@ use Rattle.std.specs.Prelude.{cond, map, replicate}
 use Rattle.std.specs.List.{list_all}
 use Rattle.text_io.specs.declared.kinds.LimitKind.TheVariants as limits
 use Rattle.text_io.specs.Limits.{common_limit}
-use Rattle.script_model.specs.Lexing.{Word, Whole, Lexed, word_closed, close_word, line_before, add_line, line_start, ends, next_line, lex_on}
+use Rattle.script_model.specs.Lexing.{Word, Whole, Lexed, line_start, ends, lex_on}
 use Rattle.script_model.specs.Lines.{is_line_byte, runs_from, before_comment, words_of, row_of, line_with}
+use Rattle.script_model.proofs.LineEnds.{nothing_more}
 use Rattle.script_text.specs.NumberedLines.{NumberedLine}
 use Rattle.script_text.specs.ScriptText.{line_text, lines_text}
 use Rattle.script_text.specs.WellFormed.{Rise, AreShort}
@@ -21,10 +22,6 @@ LineFeedLaw = (number : ℕ) (line rest : List ℕ) → list_all is_line_byte li
 abbrev pub LastLineLaw : Type 0
 LastLineLaw = (number : ℕ) (line : List ℕ) → list_all is_line_byte line ≡ true → length line ≤ common_limit limits.Line → 0 < length line
     → lex_on (line_start number) line ≡ lex_on (line_start number) (line ++ (10 ∷ []))
-
-pub nothing_more : (number : ℕ) → lex_on (line_start number) [] ≡ ends (Whole number)
-unfolding lex_on line_start add_line line_before close_word word_closed next_line
-nothing_more number = refl
 
 pub no_words : words_of [] ≡ []
 unfolding words_of runs_from before_comment

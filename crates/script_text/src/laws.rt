@@ -1,4 +1,4 @@
-//! Laws of the definitions, for every script. Each function does nothing; its clause is proved.
+//! Laws of the definitions, for every script, each stated as the contract of a function that does nothing.
 
 ghost use Rattle.std.specs.Prelude.{◌≡◌, ◌↔◌, ℕ, ℤ, ◌≤◌, unsigned_abs, true, List, length, All, Some, Ok};
 ghost use Rattle.word_model.specs.Numbers.{length_of, signed_of, percent_of, signed_percent_of, number_of};
@@ -17,7 +17,7 @@ use script_model::laws::{
     line_feed_ends_a_line, long_line_ends_the_text, script_limit_comes_first,
 };
 
-/// The printed text of a script that is well formed reads as the same script, with the same line numbers.
+/// The printed text of a well-formed script reads as the same script, with the same line numbers.
 pub fn printed_script_reads_back()
     ensures { (script : Script) → IsWellFormed script → reading (printed script) ≡ Ok script }
 {
@@ -40,7 +40,7 @@ pub fn what_is_read_is_well_formed()
     script_limit_comes_first();
 }
 
-/// The scripts that are well formed are those that some text is read as.
+/// The well-formed scripts are exactly those that some text reads as.
 pub fn well_formed_scripts_are_those_read()
     ensures { (script : Script) → IsWellFormed script ↔ ((text : List ℕ) × (reading text ≡ Ok script)) }
 {
@@ -48,7 +48,7 @@ pub fn well_formed_scripts_are_those_read()
     what_is_read_is_well_formed();
 }
 
-/// The line printed for a statement is no longer than the line of its number in the text that was read, and the printed
+/// The line printed for a statement is no longer than the line of this number in the text that was read, and the printed
 /// text of a script, up to its last line feed, is no longer than that text.
 pub fn printed_lines_are_no_longer()
     ensures lines { (text : List ℕ) (script : Script) → reading text ≡ Ok script →
@@ -64,7 +64,7 @@ pub fn printed_lines_are_no_longer()
     script_limit_comes_first();
 }
 
-/// Printed lengths, percentages and numbers are read as the same values.
+/// Printed lengths, percentages and numbers read as the same values.
 #[tactic(auto, using(crate::proofs::Values::length_reads, crate::proofs::Values::signed_reads, crate::proofs::Values::percent_reads, crate::proofs::Values::signed_percent_reads, crate::proofs::Values::number_reads))]
 pub fn printed_values_read_back()
     ensures length { (units : ℕ) → units ≤ 64000000 → length_of (length_text units) ≡ Some units }
@@ -74,7 +74,7 @@ pub fn printed_values_read_back()
     ensures number { (number : ℤ) → unsigned_abs number ≤ 9999999999999 → number_of (number_text number) ≡ Some number }
 {}
 
-/// No text that is read as a length, a percentage or a number is shorter than the printed one.
+/// No text that reads as a length, a percentage or a number is shorter than the printed one.
 #[tactic(auto, using(crate::proofs::Shortness::length_shorter, crate::proofs::Shortness::signed_shorter, crate::proofs::Shortness::percent_shorter, crate::proofs::Shortness::signed_percent_shorter, crate::proofs::Shortness::number_shorter))]
 pub fn printed_values_are_shortest()
     ensures length { (text : List ℕ) (units : ℕ) → length_of text ≡ Some units → length (length_text units) ≤ length text }
@@ -84,7 +84,7 @@ pub fn printed_values_are_shortest()
     ensures number { (text : List ℕ) (number : ℤ) → number_of text ≡ Some number → length (number_text number) ≤ length text }
 {}
 
-/// Of the texts of its length that are read as the value, the printed one is the first in byte order.
+/// Of the texts of its length that read as the value, the printed one is the first in byte order.
 #[tactic(auto, using(crate::proofs::Order::length_ordered, crate::proofs::Order::signed_ordered, crate::proofs::Order::percent_ordered, crate::proofs::Order::signed_percent_ordered, crate::proofs::Order::number_ordered))]
 pub fn printed_values_are_first_in_byte_order()
     ensures length { (text : List ℕ) (units : ℕ) → length_of text ≡ Some units → length text ≡ length (length_text units) → is_not_after (length_text units) text ≡ true }

@@ -1,5 +1,5 @@
-//! The text of a script, and that it reads as the same script: definitions in `specs/`, and here their laws and what they
-//! give for chosen scripts.
+//! The printed text of a script, which reads as the same script: the definitions are in `specs/`, their laws and worked
+//! examples here.
 #![tactic(auto)]
 
 pub mod laws;

@@ -1,4 +1,4 @@
-//! The printed texts of chosen scripts. Each function does nothing; its clauses are computed.
+//! Worked examples: the printed texts of chosen scripts. Each function has an empty body; the checker computes its clauses.
 #![tactic(auto, unfolding(crate::specs::ScriptText::printed, crate::specs::NumberText::signed_text, crate::specs::NumberText::percent_text, crate::specs::NumberText::signed_percent_text, crate::specs::NumberText::number_text, media_queries::specs::LengthText::length_text, media_queries::specs::QueryText::list_text))]
 
 ghost use Rattle.std.specs.Prelude.{◌≡◌, [], ◌∷◌, true, None, Some, pos, negsuc, codes};
@@ -13,17 +13,17 @@ ghost use Rattle.script_text.specs.NumberText.{percent_text, signed_text, signed
 ghost use Rattle.script_text.specs.ScriptText.{printed};
 ghost use Rattle.script_text.specs.WellFormed.{IsWellFormed};
 
-/// A script without items is its first line.
+/// A script without items is printed as its first line alone.
 pub fn no_items()
     ensures { printed (record { version = First; items = [] }) ≡ codes "script 1\n" }
 {}
 
-/// A line stands on its number, with empty lines before it.
+/// A line is printed at its line number, after empty lines if needed.
 pub fn lines_stand_on_their_numbers()
     ensures { printed (record { version = First; items = Tick 2 0 ∷ Tick 5 16 ∷ [] }) ≡ codes "script 1\ntick 0\n\n\ntick 16\n" }
 {}
 
-/// A handler, and blocks one in the other, each with its `end`.
+/// A handler and nested blocks, each with its `end`.
 pub fn handler_with_blocks()
     ensures { printed (record {
       version = First;
@@ -47,7 +47,7 @@ pub fn shortest_texts()
     ensures zero { number_text (pos 0) ≡ codes "0" }
 {}
 
-/// A command's words stand with one space between each two.
+/// The words of a command are separated by single spaces.
 pub fn declarations()
     ensures side { printed (record { version = First; items = Outside (Simple 2 (SetStyle (Named (codes "a")) (SetMargin TopSide (Percentage 1050)))) ∷ [] }) ≡
         codes "script 1\nset a margin-top 10.5%\n" }
@@ -57,7 +57,7 @@ pub fn declarations()
         codes "script 1\nset $target max-width none\n" }
 {}
 
-/// Insets have their sign.
+/// Insets are printed with their sign.
 pub fn positioned_declarations()
     ensures position { printed (record { version = Second; items = Outside (Simple 2 (SetStyle Target (SetPosition FixedPosition))) ∷ [] }) ≡
         codes "script 2\nset $target position fixed\n" }
@@ -67,7 +67,7 @@ pub fn positioned_declarations()
         codes "script 2\nset $target left -10.5%\n" }
 {}
 
-/// A list of queries has one space for each gap and no other one.
+/// A media query list is printed with one space for each mandatory gap and no other.
 pub fn queries()
     ensures { printed (record {
       version = First;
@@ -77,7 +77,7 @@ pub fn queries()
         codes "script 1\nmedia m top only screen and (min-width:0.5px),not (orientation:portrait)\n" }
 {}
 
-/// The words of a margin stand as they were read, those of a scroll margin behind it.
+/// The words of a root margin are printed as they were read, followed by those of a scroll margin.
 pub fn margins()
     ensures alone { printed (record {
       version = First;
@@ -93,7 +93,7 @@ pub fn margins()
         codes "script 2\nio o top - root - margin 1px scroll 50% threshold\n" }
 {}
 
-/// What the second version has alone is printed by its words.
+/// What only the second version has is printed with its words.
 pub fn second_version()
     ensures ratio { printed (record { version = Second; items = Outside (Simple 2 (SetRatio 15000)) ∷ [] }) ≡ codes "script 2\nratio 150%\n" }
     ensures device { printed (record { version = Second; items = Outside (Simple 2 (ObserveResize (codes "o") Target Device)) ∷ [] }) ≡

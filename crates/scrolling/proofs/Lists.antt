@@ -1,6 +1,6 @@
 -- Facts of each entry of a list, and tests of its entries.
-use Rattle.std.proofs.Common.{◌≡◌, ℕ, zero, suc, ◌∙◌, Bool, true, false, List, [], ◌∷◌, ◌++◌, refl, ap, sym}
-use Rattle.std.proofs.lemmas.Bool.{false≢true}
+use Rattle.std.proofs.Common.{◌≡◌, ℕ, zero, suc, ◌∙◌, Bool, false, List, [], ◌∷◌, ◌++◌, refl, ap}
+use Rattle.std.proofs.lemmas.Bool.{false≢true, or_parts}
 use Rattle.std.specs.Prelude.{map, ◌||◌}
 use Rattle.std.specs.List.{list_any, AllByRecursion, IsDistinct}
 use Rattle.page_model.specs.Lookups.{change_at, entry_or, put_at}
@@ -34,14 +34,10 @@ module _ {A : Type 0} (P : A → Type 0) (d : A) (blank : P d) where
   all-put v is zero (x ∷ xs) all = (is, all.1)
   all-put v is (suc n) (x ∷ xs) all = (all.0, all-put v is n xs (all.1))
 
-neither : (a b : Bool) → (a || b) ≡ false → (a ≡ false) × (b ≡ false)
-neither true b none = absurd (false≢true (sym none))
-neither false b none = (refl, none)
-
 -- one that is equal to none of a list can be put behind it
 pub distinct-add : {A : Type 0} (same : A → A → Bool) → ((x y : A) → same x y ≡ same y x) → (xs : List A) (y : A) → IsDistinct same xs → list_any (same y) xs ≡ false → IsDistinct same (xs ++ y ∷ [])
 unfolding IsDistinct
 distinct-add same swapped [] y distinct none = (tt, tt)
 distinct-add same swapped (x ∷ xs) y distinct none =
-    let apart = neither (same y x) (list_any (same y) xs) none in
+    let apart = or_parts (same y x) (list_any (same y) xs) none in
     (all-add (λ z. same x z ≡ false) xs y (distinct.0) (swapped x y ∙ apart.0), distinct-add same swapped xs y (distinct.1) (apart.1))

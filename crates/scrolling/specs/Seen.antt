@@ -14,11 +14,11 @@ seen_size size = record { across = unsigned_abs size.width; down = unsigned_abs 
 abbrev pub point_of : Extent → Point
 point_of extent = record { left = pos extent.across; top = pos extent.down }
 
--- a wanted position kept within a range
+-- a requested position, clamped to a range
 abbrev pub kept_in : Size → Point → Extent
 kept_in range wanted = within_range (seen_size range) wanted.left wanted.top
 
--- what a scroll answers, by whether it leaves the offset in force as it is
+-- the result of a scroll, by whether the offset in force stays as it was
 abbrev pub outcome_of : Bool → Outcome
 outcome_of true = Same
 outcome_of false = Moved

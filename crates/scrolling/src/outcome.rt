@@ -1,10 +1,10 @@
-//! What comes of a scroll.
+//! The result of a scroll.
 
 /// What a scroll did.
 #[derive(Clone, Copy, PartialEq, Eq, Debug)]
 pub enum Outcome {
     /// The offset in force changed.
     Moved,
-    /// It is as before.
+    /// The offset in force is unchanged.
     Same,
 }

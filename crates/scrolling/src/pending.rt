@@ -17,7 +17,7 @@ fn is_listed(list: &[Container], target: Container) -> bool
     list.contains(&target)
 }
 
-// Puts a target last on a list, unless it is there, where that takes no memory.
+// Appends a target to a list unless it is already there, in which case nothing is allocated.
 fn list_target(list: &mut Vec<Container>, target: Container) -> Result<(), AllocError>
     ensures listed { OnOk result (seen_containers list.new.items ≡ with_listed (seen_container target) (seen_containers list.old.items)) }
     ensures same { OnErr result (list.new.items ≡ list.old.items) }
@@ -29,7 +29,7 @@ fn list_target(list: &mut Vec<Container>, target: Container) -> Result<(), Alloc
     Ok(())
 }
 
-// Fills the lists up to a number with empty ones, for which there is room.
+// Extends the lists to this number with empty ones, for which there is capacity.
 fn fill(lists: &mut Vec<Vec<Container>>, count: usize)
     requires { count ≤ vec_capacity lists.old }
     ensures lists { seen_lists lists.new.items ≡ seen_lists lists.old.items ++ replicate (count - vec_len lists.old) [] }
@@ -40,7 +40,7 @@ fn fill(lists: &mut Vec<Vec<Container>>, count: usize)
     }
 }
 
-// Puts a target last on the list of a document, unless it is there, where that takes no memory.
+// Appends a target to the list of a document unless it is already there, in which case nothing is allocated.
 pub(crate) fn add_pending(
     lists: &mut Vec<Vec<Container>>,
     document: DocumentId,
@@ -62,7 +62,7 @@ pub(crate) fn add_pending(
     Ok(())
 }
 
-// Hands out the list of a document, and leaves it empty.
+// Takes the list of a document, leaving it empty.
 pub(crate) fn take_list(lists: &mut Vec<Vec<Container>>, document: DocumentId) -> Vec<Container>
     ensures value { seen_containers result.items ≡ entry_or [] (seen_lists lists.old.items) document.0 }
     ensures taken { seen_lists lists.new.items ≡ change_at (λ list. []) document.0 (seen_lists lists.old.items) }

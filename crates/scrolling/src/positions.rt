@@ -15,7 +15,7 @@ pub(crate) struct Position {
 
 const START: Position = Position { across: 0, down: 0 };
 
-// The position that is stored for a number, at the start where none is.
+// Returns the position stored for a number, 0 if there is none.
 pub(crate) fn position_at(held: &[Position], number: u32) -> Position
     ensures { seen_position result ≡ entry_or no_extent (map seen_position held.now) number }
 {
@@ -25,7 +25,7 @@ pub(crate) fn position_at(held: &[Position], number: u32) -> Position
     }
 }
 
-// Makes room for a number's position.
+// Reserves capacity for a number's position.
 pub(crate) fn reserve_place(held: &mut Vec<Position>, number: u32) -> Result<(), AllocError>
     ensures items { held.new.items ≡ held.old.items }
     ensures room { OnOk result (number < vec_capacity held.new) }
@@ -35,7 +35,7 @@ pub(crate) fn reserve_place(held: &mut Vec<Position>, number: u32) -> Result<(),
     held.reserve(count.saturating_sub(held.len()))
 }
 
-// Stores a number's position, for which there is room.
+// Stores a number's position, for which there is capacity.
 pub(crate) fn store(held: &mut Vec<Position>, number: u32, position: Position)
     requires { number < vec_capacity held.old }
     ensures { map seen_position held.new.items ≡ put_at no_extent number (seen_position position) (map seen_position held.old.items) }

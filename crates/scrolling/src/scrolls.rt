@@ -1,4 +1,4 @@
-//! All that is kept of scrolling.
+//! The scroll state of a page.
 
 ghost use Rattle.std.specs.Prelude.{◌≡◌, ◌<◌, ◌≤◌, true, [], map, min, unsigned_abs, vec_len, IfOk, OnOk, OnErr, IsOk};
 ghost use Rattle.std.specs.List.{list_any};
@@ -20,11 +20,11 @@ use px_units::{Point, Size};
 use std::alloc::{AllocError, Global};
 use std::marker::Model;
 
-/// The stored scroll positions of elements and documents, and for each document the targets whose scroll events are
-/// pending, in order and without doubles (CSSOM View, 4 to 6 and 13). A clause sees lists by number.
+/// The stored scroll positions of elements and documents, and for each document the targets whose scroll events are pending,
+/// in order and without duplicates (CSSOM View, 4 to 6 and 13). Contracts see lists by number.
 ///
-/// A range that is handed in is what a target can be scrolled by now: how far its content reaches beyond its box or
-/// viewport, from 0 to 2,147,483,647 units on both axes. Ranges aren't kept, and layout changes nothing that is kept here.
+/// A range passed in is how far a target can currently be scrolled: how far its content overflows its box or viewport, from 0
+/// to 2,147,483,647 units on both axes. Ranges aren't stored, and layout changes nothing that is stored here.
 #[derive(Drop)]
 pub struct Scrolls {
     elements: Vec<Position>,
@@ -46,7 +46,7 @@ impl Model for Scrolls {
     ghost invariant = { λ o. IsHeld (record { elements = map seen_position o.elements.items; documents = map seen_position o.documents.items; pending = seen_lists o.pending.items }) };
 }
 
-// The lesser of a position and a length, which isn't negative.
+// Returns the lesser of a position and a non-negative length.
 fn lesser(units: u64, most: i64) -> u64
     requires { IsLength most }
     ensures value { result ≡ min units (unsigned_abs most) }
@@ -55,7 +55,7 @@ fn lesser(units: u64, most: i64) -> u64
     units.min(most.unsigned_abs())
 }
 
-// A wanted position between 0 and a length.
+// Clamps a requested position to 0 up to a length.
 fn kept(wanted: i64, most: i64) -> u64
     requires { IsLength most }
     ensures { result ≡ kept_within wanted (unsigned_abs most) }
@@ -66,7 +66,7 @@ fn kept(wanted: i64, most: i64) -> u64
     wanted.unsigned_abs().min(most.unsigned_abs())
 }
 
-// Stores the position of a number, and puts a target on the pending list of a document.
+// Stores the position of a number, and adds a target to the pending list of a document.
 fn move_in(
     held: &mut Vec<Position>,
     pending: &mut Vec<Vec<Container>>,
@@ -88,7 +88,7 @@ fn move_in(
 }
 
 impl Scrolls {
-    /// Nothing is scrolled, and nothing is pending; it takes no memory yet.
+    /// Creates the initial state: nothing is scrolled and nothing is pending; allocates nothing.
     pub fn new(alloc: Global) -> Scrolls
         ensures { result ≡ unscrolled }
     {
@@ -121,8 +121,8 @@ impl Scrolls {
         }
     }
 
-    /// The scroll offset in force: on each axis the lesser of the stored position and the range. Where nothing is stored
-    /// it is 0.
+    /// Returns the scroll offset in force: on each axis the lesser of the stored position and the range. It is 0 if no
+    /// position is stored.
     pub fn offset_in_force(&self, target: Container, range: Size) -> Point
         requires { IsRange range }
         ensures value { result ≡ point_of (offset_of (seen_container target) (seen_size range) self.now) }
@@ -135,7 +135,7 @@ impl Scrolls {
         }
     }
 
-    // Stores a position, and puts the target on the pending list of a document.
+    // Stores a position, and adds the target to the pending list of a document.
     fn move_to(
         &mut self,
         document: DocumentId,
@@ -166,11 +166,11 @@ impl Scrolls {
         }
     }
 
-    /// Scrolls a target to a wanted position, kept within its range (CSSOM View, 6: `scrollTo`). Where that is the offset in
-    /// force already, it answers `Same`, and nothing changes, the stored position included. Else it is stored, and the
-    /// target is put last on the pending list of the document that is named, unless it is there.
+    /// Scrolls a target to a requested position, clamped to its range (CSSOM View, 6: `scrollTo`). If that is already the
+    /// offset in force, returns `Same`, and nothing changes, including the stored position. Otherwise it is stored, and the
+    /// target is appended to the pending list of the given document unless it is already there.
     ///
-    /// It asks for memory only where the target isn't pending there; where there is none, nothing changes.
+    /// It can fail only if the target moves and isn't pending there; nothing changes then.
     pub fn scroll_to(
         &mut self,
         document: DocumentId,
@@ -197,7 +197,7 @@ impl Scrolls {
         Ok(Outcome::Moved)
     }
 
-    /// Hands out a document's pending list, and leaves it empty (CSSOM View, 13: run the scroll steps). It takes no memory.
+    /// Takes a document's pending list, leaving it empty (CSSOM View, 13: run the scroll steps). It doesn't allocate.
     pub fn take_pending(&mut self, document: DocumentId) -> Vec<Container>
         ensures value { seen_containers result.items ≡ pending_of document.0 self.old }
         ensures taken { self.new ≡ without_pending document.0 self.old }

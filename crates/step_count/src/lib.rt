@@ -1,4 +1,4 @@
-//! The step counter with which a contract bounds how much work a call does. It takes no bytes at run time.
+//! The step counter that contracts use to bound how much work a call does. It occupies no bytes at run time.
 #![tactic(auto)]
 
 ghost use Rattle.std.specs.Prelude.{◌≡◌, ◌+◌, ◌<◌};
@@ -6,7 +6,7 @@ ghost use Rattle.std.specs.Prelude.{◌≡◌, ◌+◌, ◌<◌};
 use std::marker::Model;
 use std::sync::ledger::{Blank, Book, Ledger, Share};
 
-/// How many steps were taken. A contract sees it as that number. It takes no bytes, and only `tick`
+/// The number of steps taken so far. A contract sees it as that number. It occupies no bytes at run time, and only `tick`
 /// changes it.
 #[derive(Drop)]
 pub struct Steps<L: Ledger> {
@@ -25,11 +25,11 @@ impl<L: Ledger> Model for Steps<L> {
 }
 
 impl<L: Ledger> Steps<L> {
-    /// A counter at 0, over the ledger that `blank` opens.
+    /// Creates a counter at 0, over the ledger that `blank` opens.
     ///
-    /// A caller that counts nothing writes a function that takes a `Blank` and makes its steps from it, calls that
-    /// function at the ledger `Brand` with `Blank::new(1)`, and picks the blank's name and parts for
-    /// the ledger in its proofs.
+    /// A caller with no counter of its own writes a function that takes a `Blank` and creates its `Steps` from it, calls that
+    /// function at the ledger `Brand` with `Blank::new(1)`, and in its proofs picks the blank's name and parts for
+    /// the ledger.
     pub fn new(blank: Blank) -> Steps<L>
         requires name { blank.name ≡ L.name }
         requires parts { blank.parts ≡ L.parts }
@@ -40,7 +40,7 @@ impl<L: Ledger> Steps<L> {
         Steps { book, share }
     }
 
-    /// Takes one step.
+    /// Counts one step.
     pub fn tick(&mut self)
         ensures { self.new ≡ self.old + 1 }
     {

@@ -12,7 +12,7 @@ use Rattle.stream_replay.specs.declared.stream_page.Standing.TheVariants as stan
 use Rattle.stream_replay.specs.declared.stream_page.Refusal.TheVariants as refusal
 use Rattle.stream_replay.specs.declared.stream_page.StreamPage.{StreamPage}
 
--- the items that are left of a script, and the world of its page; a page that met a limit has come to its end
+-- the remaining items of a script, and the world of its page; a page that is stopped met a limit and is over
 abbrev pub seen_running : Running → runs.Standing
 seen_running it =
     cond it.is_stopped (runs.Over outcomes.LimitMet) (runs.Going (handlers_in it.script.items) (drop it.next it.script.items) it.page.world)
@@ -25,7 +25,7 @@ seen_standing (standing.Refused refusal.LimitMet) = runs.Over outcomes.LimitMet
 abbrev pub seen_page : StreamPage → PageRun
 seen_page it = record { name = it.name; standing = seen_standing it.standing }
 
--- whether this item is there and begins on a line
+-- whether there is an item and it begins on this line
 abbrev pub item_begins : ℕ → Option Item → Bool
 item_begins line None = false
 item_begins line (Some item) = item_line item == line
@@ -34,7 +34,7 @@ item_begins line (Some item) = item_line item == line
 abbrev pub begins : ℕ → Running → Bool
 begins line it = not it.is_stopped && item_begins line (slice_get it.script.items it.next)
 
--- a page that goes on is ready for its next item
+-- a page that isn't stopped is ready for its next item
 abbrev pub IsReadyToRun : Running → Type 0
 IsReadyToRun it = it.is_stopped ≡ false → IsReady it.script.items it.page.world
 

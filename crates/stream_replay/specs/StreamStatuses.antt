@@ -16,7 +16,7 @@ met_limit Ended = false
 met_limit Faulty = false
 met_limit LimitMet = true
 
--- a fault of some page's script comes before a limit that some page met
+-- a syntax fault in some page's script takes precedence over a limit that some page met
 abbrev pub stream_status : List PageRun → Status
 stream_status pages =
     cond (list_any (λ page. is_faulty (ending_at page.standing)) pages) Syntax

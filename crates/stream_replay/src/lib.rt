@@ -1,4 +1,4 @@
-//! Streams of pages: the scripts that a source holds, run side by side, each on a page of its own.
+//! Streams of pages: the scripts in one source, run side by side, each on a page of its own.
 #![tactic(auto)]
 
 mod named;

@@ -1,4 +1,4 @@
-//! The lines of a page of a stream, written with its name.
+//! Writing the lines of a page of a stream with its name.
 
 ghost use Rattle.std.specs.Prelude.{◌≡◌, ◌∷◌, ◌++◌, List, IfOk};
 ghost use Rattle.script_model.specs.TraceLines.{TraceLine as LineModel};
@@ -12,7 +12,7 @@ use trace_runs::{RunFault, write_text};
 use trace_summary::split_line;
 use trace_text::line_ends_once;
 
-// A line with the name and a space before it.
+// Returns a line prefixed with the name and a space.
 fn named_line(alloc: Global, name: &Name, line: &[u8]) -> Result<Vec<u8>, AllocError>
     ensures { IfOk result (λ text. text.items ≡ name.now ++ (32 ∷ line.now)) }
 {
@@ -36,10 +36,10 @@ fn write_line<K: Sink>(
     }
 }
 
-/// Writes the lines of a trace, each with the page's name and a space before it.
+/// Writes the lines of a trace, each prefixed with the page's name and a space.
 ///
-/// - `WriteFault` only where the sink's count of faults rose in this call; a first part of the text was written.
-/// - `Memory` for want of memory. No other fault comes.
+/// - `WriteFault` only if the sink's fault count rose in this call; a prefix of the text was written.
+/// - `Memory` if an allocation fails. No other error occurs.
 pub fn write_named<K: Sink>(
     alloc: Global,
     name: &Name,

@@ -1,4 +1,4 @@
-//! Several pages of one stream, side by side.
+//! Running several pages of one stream side by side.
 
 ghost use Rattle.std.specs.Io.KnownBytes.{Appends};
 ghost use Rattle.std.specs.Prelude.{ℕ, List, Option, ◌≡◌, ◌≤◌, ◌++◌, ◌∷◌, [], length, map, ◌<◌, true, Ok, Err, IfOk, IfSome, OnOk, OnErr};
@@ -38,13 +38,13 @@ use trace_runs::{RunFault, write_one};
 use trace_summary::GatherSink;
 use trace_text::{TraceLine, line_ends_once, value_is_a_line};
 
-/// The most bytes of a stream.
+/// The maximum number of bytes of a stream.
 const MOST_STREAM: usize = 16_777_216;
 
-/// The most pages of a stream.
+/// The maximum number of pages of a stream.
 const MOST_PAGES: usize = 8;
 
-// A page whose script is read.
+// Adds a page whose script was parsed.
 fn add_page(
     alloc: Global,
     name: Name,
@@ -55,7 +55,7 @@ fn add_page(
     ensures ready { OnOk result (All IsReadyPage pages.old.items → All IsReadyPage pages.new.items) }
     ensures err { OnErr result (result ≡ Err RunFault.Memory) }
 {
-    // Room comes first, so that no page is dropped for want of it, which is long to prove.
+    // Capacity is reserved first, so that no page has to be dropped if that fails.
     let Ok(()) = pages.reserve(1) else {
         return Err(RunFault::Memory);
     };
@@ -75,7 +75,7 @@ fn add_page(
     Ok(())
 }
 
-// A page whose script is refused, and the line that says so.
+// Adds a page whose script was rejected, and writes the line that says so.
 fn refuse_page<K: Sink>(
     alloc: Global,
     name: Name,
@@ -111,7 +111,7 @@ fn ends_once(line: &TraceLine)
     line_ends_once();
 }
 
-// A page with the text of its script.
+// Opens a page with the text of its script.
 fn open_page<K: Sink>(
     alloc: Global,
     name: Name,
@@ -140,7 +140,7 @@ fn open_page<K: Sink>(
     }
 }
 
-// The text of a page's script.
+// Returns the text of a page's script.
 fn text_of(alloc: Global, stream: &Stream<'_>, page: usize) -> Result<ScriptText, RunFault>
     requires { page < length (pages_of stream.now) }
     ensures text { IfOk result (λ text. reading text ≡ reading (script_of page stream.now)) }
@@ -156,7 +156,7 @@ fn text_of(alloc: Global, stream: &Stream<'_>, page: usize) -> Result<ScriptText
     }
 }
 
-// The pages of a stream, before the first command of any of them.
+// Opens the pages of a stream, before the first item of any of them is run.
 fn open_pages<K: Sink>(
     alloc: Global,
     stream: &Stream<'_>,
@@ -177,7 +177,7 @@ fn open_pages<K: Sink>(
     Ok(())
 }
 
-// The lines of a stream, one after another: each is a turn of its page.
+// Runs the lines of a stream, one after another: each is a turn of its page.
 fn run_parts<K: Sink, L: Ledger>(
     alloc: Global,
     pages: &mut [StreamPage],
@@ -211,7 +211,7 @@ fn any_limited(pages: &[StreamPage]) -> bool
     pages.iter().any(|page| page.standing.met_limit())
 }
 
-// A fault of some page's script comes before a limit that some page met.
+// A fault in some page's script takes precedence over a limit that some page met.
 #[tactic(auto, using(crate::proofs::SideBySide::status_seen))]
 fn status_by(pages: &[StreamPage]) -> Status
     ensures { result ≡ stream_status (map seen_page pages.now) }
@@ -225,7 +225,7 @@ fn status_by(pages: &[StreamPage]) -> Status
     }
 }
 
-// A stream whose pages are opened.
+// Runs a stream whose pages were opened.
 fn run_opened<K: Sink, L: Ledger>(
     alloc: Global,
     stream: &Stream<'_>,
@@ -236,7 +236,7 @@ fn run_opened<K: Sink, L: Ledger>(
     requires opened { map seen_page pages.old ≡ (stream_opened (scripts_of stream.now)).pages }
     requires ready { All IsReadyPage pages.old }
     requires lines { All IsOneLine (opening_lines (scripts_of stream.now)) }
-    // behind what was written when the pages were opened
+    // after what was written when the pages were opened
     ensures tells { (before : Option (List ℕ)) (faults : ℕ) → Appends before (K.taken sink.old) (stream_opened (scripts_of stream.now)).text → K.faults sink.old ≡ faults
         → Tells result (run_reply (stream_run stream.now)) before (K.taken sink.new) faults (K.faults sink.new) }
     ensures lines { is_whole result ≡ true → All IsOneLine (stream_lines stream.now) }
@@ -245,7 +245,7 @@ fn run_opened<K: Sink, L: Ledger>(
     status_of(wrote, status_by(pages))
 }
 
-// A stream with room for its pages.
+// Runs a stream with capacity for its pages.
 fn run_with<K: Sink, L: Ledger>(
     alloc: Global,
     stream: &Stream<'_>,
@@ -263,7 +263,7 @@ fn run_with<K: Sink, L: Ledger>(
     }
 }
 
-// A stream. Here its pages are dropped.
+// Runs a stream, and drops its pages.
 fn run_stream<K: Sink, L: Ledger>(
     alloc: Global,
     stream: &Stream<'_>,
@@ -280,7 +280,7 @@ fn run_stream<K: Sink, L: Ledger>(
     run_with(alloc, stream, &mut pages, sink, steps)
 }
 
-// The bytes of a source.
+// Runs the bytes of a source.
 fn run_bytes<K: Sink, L: Ledger>(
     alloc: Global,
     source: &[u8],
@@ -299,12 +299,13 @@ fn run_bytes<K: Sink, L: Ledger>(
     }
 }
 
-/// Runs the scripts of the pages that the source holds, side by side, and writes each line with the name of its page as it is said.
+/// Runs the scripts of the pages in the source side by side, and writes each line as it is produced, with the name of its
+/// page.
 ///
-/// - `Done`, `Syntax` and `Limit`: exactly by the reply to the source's bytes, and all of its text was written. The source is at its end then;
-///   of more than 16,777,216 bytes one more than that many were taken. No `Usage` comes.
-/// - `ReadFault` and `WriteFault`: only where that count of faults rose in this call; nothing was written, or a first part of the text.
-///   `NoMemory` for want of memory, with a first part of the text.
+/// - `Done`, `Syntax` and `Limit`: exactly as the reply to the source's bytes says, and all of its text was written. The
+///   source is at its end then; of more than 16,777,216 bytes one more than that many were consumed. `Usage` doesn't occur.
+/// - `ReadFault` and `WriteFault`: only if that fault count rose in this call; nothing was written, or a prefix of the text,
+///   respectively. `NoMemory` if an allocation fails, after a prefix of the text.
 pub fn run_pages<S: Source, K: Sink, L: Ledger>(
     alloc: Global,
     source: &mut S,

@@ -1,4 +1,4 @@
-//! A page of a stream, as it runs.
+//! The run of one page of a stream.
 
 ghost use Rattle.std.specs.Prelude.{◌≡◌, true, [], OnOk, OnErr, Err};
 ghost use Rattle.std.specs.List.{All};
@@ -24,30 +24,30 @@ use trace_runs::RunFault;
 use trace_summary::GatherSink;
 use trace_text::line_ends_once;
 
-/// A script that runs on a page of its own.
+/// A script running on a page of its own.
 #[derive(Drop)]
 pub struct Running {
     pub script: Script,
     pub page: Page,
-    /// How many of the items were run.
+    /// The number of items already run.
     pub next: usize,
-    /// Whether it met a limit, so that it isn't run on.
+    /// Whether it met a limit, so that it is no longer run.
     pub is_stopped: bool,
 }
 
-/// Why a script was refused.
+/// Why a script was rejected.
 #[derive(Clone, Copy, Debug, PartialEq, Eq)]
 pub enum Refusal {
     Faulty,
     LimitMet,
 }
 
-/// How a page of a stream stands.
+/// The state of a page of a stream.
 #[derive(Drop)]
 pub enum Standing {
-    /// Its script was read: it goes on, has come to its end, or was stopped.
+    /// Its script was parsed: it is running, has ended, or was stopped.
     Opened(Running),
-    /// Its script was refused, so that there is no page.
+    /// Its script was rejected, so that there is no page.
     Refused(Refusal),
 }
 
@@ -71,14 +71,14 @@ impl Standing {
     }
 }
 
-/// A page of a stream, as it runs.
+/// The run of one page of a stream.
 #[derive(Drop)]
 pub struct StreamPage {
     pub name: Name,
     pub standing: Standing,
 }
 
-// The line on which an item begins.
+// Returns the line on which an item begins.
 fn first_line(item: &Item) -> u32
     ensures { result ≡ item_line (item_of item.now) }
 {
@@ -89,7 +89,7 @@ fn first_line(item: &Item) -> u32
     }
 }
 
-// Whether the next item is run at a line.
+// Whether the next item begins at a line.
 fn next_begins(running: &Running, line: u32) -> bool
     ensures { result ≡ begins line running.now }
 {
@@ -102,7 +102,7 @@ fn next_begins(running: &Running, line: u32) -> bool
     }
 }
 
-// Runs the next item, and gathers its lines, that of a limit included.
+// Runs the next item, and collects its lines, including that of a limit.
 fn run_next<L: Ledger>(
     alloc: Global,
     running: &mut Running,
@@ -138,12 +138,12 @@ fn run_next<L: Ledger>(
                 Err(_) => Err(RunFault::Memory),
             }
         }
-        // In memory a write fails for want of it alone.
+        // A write to memory fails only if an allocation fails.
         Err(RunFault::Memory | RunFault::WriteFault) => Err(RunFault::Memory),
     }
 }
 
-// The turn of a page that stands so: its lines are gathered.
+// Runs the turn of a page in this state, and collects its lines.
 fn turn<L: Ledger>(
     alloc: Global,
     standing: &mut Standing,
@@ -167,10 +167,11 @@ fn turn<L: Ledger>(
     run_next(alloc, running, line, gathered, steps)
 }
 
-/// A line of a page: the next item is run where it begins there, and its lines are written with the page's name.
+/// Runs the turn of a page at a line of its script: runs the next item if it begins there, and writes its lines with the
+/// page's name.
 ///
-/// - `WriteFault` only where the sink's count of faults rose in this call; a first part of the lines was written.
-/// - `Memory` for want of memory. No other fault comes.
+/// - `WriteFault` only if the sink's fault count rose in this call; a prefix of the lines was written.
+/// - `Memory` if an allocation fails. No other error occurs.
 pub fn take_turn<K: Sink, L: Ledger>(
     alloc: Global,
     page: &mut StreamPage,
@@ -185,7 +186,7 @@ pub fn take_turn<K: Sink, L: Ledger>(
     ensures page { OnOk result (seen_page page.new ≡ record { name = page.old.name; standing = (turn_at line (seen_page page.old).standing).standing }) }
     ensures ready { OnOk result (IsReadyPage page.new) }
 {
-    // the law by which each line that is gathered ends in its only line feed
+    // the law by which each collected line ends in its only line feed
     line_ends_once();
     let mut gathered = GatherSink::new(alloc);
     turn(alloc, &mut page.standing, line, &mut gathered, steps)?;

@@ -1,4 +1,4 @@
-//! Laws of streams of pages, each the clause of a function that does nothing.
+//! Laws of streams of pages, each stated as the contract of a function that does nothing.
 
 ghost use Rattle.std.specs.Prelude.{◌≡◌, ℕ, List, Some, slice_get, option_map};
 ghost use Rattle.std.specs.List.{All};
@@ -10,9 +10,9 @@ ghost use Rattle.stream_runs.specs.Alone.{IsOneLine, IsPage, SayLines, TellsAlon
 
 use script_text::laws::{printed_lines_are_no_longer, what_is_read_is_well_formed};
 
-/// The lines of a page in what is written of a stream, its name and the space cut off, are the trace of its script alone: no
-/// other page of the stream changes a byte of them. This is said of streams whose pages say lines that end in their only line
-/// feed, so that the text can be told apart by lines.
+/// The lines written for a page of a stream, without its name and the space, are the trace of its script alone: no
+/// other page of the stream changes a byte of them. The premise is that each line of the pages ends in its only line feed, so
+/// that the text can be split into lines.
 pub fn each_page_is_as_if_it_ran_alone()
     ensures { (source : List ℕ) → SayLines source → TellsAlone source (stream_run source).text }
 {
@@ -21,8 +21,8 @@ pub fn each_page_is_as_if_it_ran_alone()
     printed_lines_are_no_longer();
 }
 
-/// Where each line that is said in a stream, line by line and of scripts that are refused, ends in its only line feed, so does each
-/// that a page's script says alone. So whoever runs a stream can see that its pages say such lines.
+/// If each line that is written for a stream, for its commands and for scripts with a fault, ends in its only line feed, so does
+/// each line that a page's script alone gives. So whoever runs a stream can check the premise of the other laws.
 pub fn lines_of_the_stream_are_those_of_its_pages()
     ensures { (source : List ℕ) → All IsOneLine (stream_lines source) → SayLines source }
 {
@@ -41,8 +41,8 @@ pub fn each_page_ends_as_if_it_ran_alone()
     printed_lines_are_no_longer();
 }
 
-/// Two streams that have a page with the same script write the same of it, whatever the other pages are, however the lines are
-/// mixed, and whichever place the page has in each.
+/// Two streams that have a page with the same name and script write the same for it, whatever the other pages are, however the
+/// lines are interleaved, and whichever position the page has in each.
 pub fn what_is_written_of_a_page_is_told_by_its_script()
     ensures { (one other : List ℕ) → SayLines one → SayLines other → (place there : ℕ) (name : List ℕ) → IsPage one place name → IsPage other there name
         → script_of place one ≡ script_of there other → text_of_page name (stream_run one).text ≡ text_of_page name (stream_run other).text }

@@ -1,4 +1,4 @@
-//! The definitions of a stream of pages as it runs (`specs/`), and their laws: each page is as if it ran alone.
+//! The definitions of how a stream of pages runs (`specs/`), and their laws: each page behaves as if it ran alone.
 #![tactic(auto)]
 
 pub mod laws;

@@ -18,7 +18,7 @@ unfolding either_of
 either_none see rest None second is of = of
 either_none see rest (Some y) second is of = cc
 
-is_mapped : {A B : Type 0} (see : A → B) (found : Option A) → is_some (option_map see found) ≡ is_some found
+pub is_mapped : {A B : Type 0} (see : A → B) (found : Option A) → is_some (option_map see found) ≡ is_some found
 is_mapped see None = refl
 is_mapped see (Some x) = refl
 

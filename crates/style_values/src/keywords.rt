@@ -1,4 +1,4 @@
-//! Fixed words and what each stands for.
+//! Keywords and their values.
 
 ghost use Rattle.std.specs.Prelude.{◌≡◌, map, option_map};
 ghost use Rattle.script_model.specs.Keywords.{keyword, lookup};
@@ -29,7 +29,7 @@ const POSITIONS: [(&[u8], Position); 4] = [
     (b"fixed", Position::Fixed),
 ];
 
-/// What the word stands for in a table of fixed words, none where it isn't there.
+/// Looks a word up in a table of fixed words: returns the value in the first row with that word, or `None` if there is none.
 #[tactic(auto, unfolding(script_model::specs::Keywords::lookup))]
 pub fn lookup<T: Copy>(mut table: &[(&[u8], T)], word: &[u8]) -> Option<T>
     ensures { result ≡ lookup (map (λ row. keyword row.0.now row.1) table.entry.now) word.now }
@@ -43,28 +43,28 @@ pub fn lookup<T: Copy>(mut table: &[(&[u8], T)], word: &[u8]) -> Option<T>
     None
 }
 
-/// The display that this word names.
+/// Returns the `display` value that this word names, or `None`.
 pub fn display(word: &[u8]) -> Option<Display>
     ensures { option_map seen_display result ≡ lookup displays word.now }
 {
     lookup(&DISPLAYS, word)
 }
 
-/// The box that this word names.
+/// Returns the `box-sizing` value that this word names, or `None`.
 pub fn box_sizing(word: &[u8]) -> Option<BoxSizing>
     ensures { option_map seen_box_sizing result ≡ lookup box_sizings word.now }
 {
     lookup(&BOX_SIZINGS, word)
 }
 
-/// The overflow that this word names.
+/// Returns the `overflow` value that this word names, or `None`.
 pub fn overflow(word: &[u8]) -> Option<Overflow>
     ensures { option_map seen_overflow result ≡ lookup overflows word.now }
 {
     lookup(&OVERFLOWS, word)
 }
 
-/// The position that this word names.
+/// Returns the `position` value that this word names, or `None`.
 pub fn position(word: &[u8]) -> Option<Position>
     ensures { option_map seen_position result ≡ lookup positions word.now }
 {

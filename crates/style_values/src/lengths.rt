@@ -1,4 +1,4 @@
-//! Lengths that properties have.
+//! Parsing of property values that are lengths.
 
 ghost use Rattle.std.specs.Prelude.{◌≡◌, ◌≤◌, ◌≤ℤ◌, pos, neg_ℤ, option_map, unsigned_abs, IfSome};
 ghost use Rattle.word_model.specs.Numbers.{length_of};
@@ -8,7 +8,7 @@ ghost use Rattle.style_values.specs.Ranges.{IsUnits, IsSize, IsAutoOrSize, IsNon
 
 use px_units::{Length, Percent, Px};
 
-/// A length of so many units of 1/64 pixel.
+/// Returns the length of `count` units of 1/64 pixel.
 fn units(count: u64) -> Px
     requires { count ≤ 64000000 }
     ensures value { unsigned_abs result.0 ≡ count }
@@ -17,7 +17,7 @@ fn units(count: u64) -> Px
     Px(count as i64)
 }
 
-/// A percentage of so many hundredths.
+/// Returns the percentage of `count` hundredths of a percent.
 fn hundredths(count: u64) -> Length
     requires { count ≤ 1000000 }
     ensures value { seen_length result ≡ Percentage count }
@@ -26,7 +26,7 @@ fn hundredths(count: u64) -> Length
     Length::Percent(Percent(count as i32))
 }
 
-/// A length in pixels, at most 1,000,000. None for any other word.
+/// Parses a length in pixels, at most 1,000,000. Returns `None` for any other word.
 pub fn border(word: &[u8]) -> Option<Px>
     ensures value { option_map (λ px. unsigned_abs px.0) result ≡ length_of word.now }
     ensures range { IfSome result (λ px. IsUnits px.0) }
@@ -34,7 +34,7 @@ pub fn border(word: &[u8]) -> Option<Px>
     Some(units(word_model::length(word)?))
 }
 
-/// A length in pixels, at most 1,000,000, or a percentage, at most 10,000. None for any other word.
+/// Parses a length in pixels, at most 1,000,000, or a percentage, at most 10,000. Returns `None` for any other word.
 #[tactic(auto, using(crate::proofs::Sizes::size_units, crate::proofs::Sizes::size_percent))]
 pub fn size(word: &[u8]) -> Option<Length>
     ensures value { option_map seen_length result ≡ size_of word.now }
@@ -46,7 +46,7 @@ pub fn size(word: &[u8]) -> Option<Length>
     Some(hundredths(word_model::percent(word)?))
 }
 
-/// `auto`, a length or a percentage. None for any other word.
+/// Parses `auto`, a length or a percentage. Returns `None` for any other word.
 #[tactic(auto, using(crate::proofs::Sizes::auto_or_size_of_is))]
 pub fn auto_or_size(word: &[u8]) -> Option<Length>
     ensures value { option_map seen_length result ≡ auto_or_size_of word.now }
@@ -58,7 +58,7 @@ pub fn auto_or_size(word: &[u8]) -> Option<Length>
     size(word)
 }
 
-/// `none`, which is a None inside, a length or a percentage. None for any other word.
+/// Parses `none` (as `Some(None)`), a length or a percentage. Returns `None` for any other word.
 #[tactic(auto, using(crate::proofs::Sizes::none_or_size_of_is))]
 pub fn none_or_size(word: &[u8]) -> Option<Option<Length>>
     ensures value { option_map (λ value. option_map seen_length value) result ≡ none_or_size_of word.now }
@@ -70,7 +70,7 @@ pub fn none_or_size(word: &[u8]) -> Option<Option<Length>>
     Some(Some(size(word)?))
 }
 
-/// An inset of so many units.
+/// Returns the inset of `count` units of 1/64 pixel.
 fn inset_units(count: i64) -> Length
     requires { (neg_ℤ (pos 64000000) ≤ℤ count) × (count ≤ℤ pos 64000000) }
     ensures value { seen_inset result ≡ InsetPixels count }
@@ -79,7 +79,7 @@ fn inset_units(count: i64) -> Length
     Length::Px(Px(count))
 }
 
-/// An inset of so many hundredths of a percent.
+/// Returns the inset of `count` hundredths of a percent.
 fn inset_hundredths(count: i64) -> Length
     requires { (neg_ℤ (pos 1000000) ≤ℤ count) × (count ≤ℤ pos 1000000) }
     ensures value { seen_inset result ≡ InsetPercentage count }
@@ -88,7 +88,7 @@ fn inset_hundredths(count: i64) -> Length
     Length::Percent(Percent(count as i32))
 }
 
-/// `auto`, or a length or a percentage with an optional `-`. None for any other word.
+/// Parses `auto`, or a length or a percentage with an optional `-`. Returns `None` for any other word.
 #[tactic(auto, using(crate::proofs::Insets::inset_auto, crate::proofs::Insets::inset_units, crate::proofs::Insets::inset_percent))]
 pub fn inset(word: &[u8]) -> Option<Length>
     ensures value { option_map seen_inset result ≡ inset_of word.now }

@@ -1,4 +1,4 @@
-//! The styles of elements: the properties with their values, read from words and set.
+//! The styles of elements: properties and their values, which are parsed from words and applied.
 #![tactic(auto)]
 
 mod declarations;
@@ -21,7 +21,7 @@ pub enum Display {
     Hidden,
 }
 
-/// Which box a width and a height are of (CSS Box Sizing 3, 3.1).
+/// Which box `width` and `height` apply to (CSS Box Sizing 3, 3.1).
 #[derive(Clone, Copy, Debug, PartialEq, Eq)]
 pub enum BoxSizing {
     /// `content-box`
@@ -30,14 +30,14 @@ pub enum BoxSizing {
     Border,
 }
 
-/// What becomes of content that doesn't fit its box (CSS Overflow 3, 3.1).
+/// What happens to content that doesn't fit its box (CSS Overflow 3, 3.1).
 #[derive(Clone, Copy, Debug, PartialEq, Eq)]
 pub enum Overflow {
     /// `visible`
     Visible,
     /// `hidden`: a scroll container.
     Hidden,
-    /// `clip`: cut, and no scroll container.
+    /// `clip`: clips, but isn't a scroll container.
     Clip,
     /// `scroll`: a scroll container.
     Scroll,
@@ -61,13 +61,13 @@ pub enum Position {
     Static,
     /// `relative`: moved by its insets from where it is in the flow.
     Relative,
-    /// `absolute`: out of flow, in its nearest positioned ancestor.
+    /// `absolute`: out of flow, held by its nearest positioned ancestor, or by the page if there is none.
     Absolute,
-    /// `fixed`: out of flow, on the screen.
+    /// `fixed`: out of flow, held by the screen: it doesn't move as the viewport is scrolled.
     Fixed,
 }
 
-/// The sides that a declaration sets: one of them, or by a shorthand all four (CSS 2.2, 8.3 to 8.5).
+/// The sides that a declaration sets: a single one, or, for a shorthand, all four (CSS 2.2, 8.3 to 8.5).
 #[derive(Clone, Copy, Debug, PartialEq, Eq)]
 pub enum Sides {
     Top,
@@ -79,7 +79,7 @@ pub enum Sides {
 }
 
 /// The values of an element's properties (CSS 2.2, 8 to 11). Lengths are in units of 1/64 pixel, at most 64,000,000,
-/// percentages in hundredths of a percent, at most 1,000,000; none but insets is negative, and those are at least the negatives of these.
+/// percentages in hundredths of a percent, at most 1,000,000; only insets may be negative, down to the negatives of these bounds.
 #[derive(Clone, Copy, Debug, PartialEq, Eq)]
 pub struct Style {
     /// Initially `block`.
@@ -96,9 +96,9 @@ pub struct Style {
     pub min_width: Length,
     /// A length or a percentage, initially 0.
     pub min_height: Length,
-    /// A length or a percentage, None for `none`. Initially None.
+    /// A length or a percentage, `None` for `none`. Initially `None`.
     pub max_width: Option<Length>,
-    /// A length or a percentage, None for `none`. Initially None.
+    /// A length or a percentage, `None` for `none`. Initially `None`.
     pub max_height: Option<Length>,
     /// Margins are lengths or percentages, initially 0.
     pub margin_top: Length,
@@ -124,7 +124,7 @@ pub struct Style {
     pub left: Length,
 }
 
-/// One property with its value (CSS 2.2, 4.1.8).
+/// A property and its value (CSS 2.2, 4.1.8).
 #[derive(Clone, Copy, Debug, PartialEq, Eq)]
 pub enum Declaration {
     /// `display`
@@ -137,9 +137,9 @@ pub enum Declaration {
     MinWidth(Length),
     /// `min-height`: a length or a percentage.
     MinHeight(Length),
-    /// `max-width`: a length or a percentage, None for `none`.
+    /// `max-width`: a length or a percentage, `None` for `none`.
     MaxWidth(Option<Length>),
-    /// `max-height`: a length or a percentage, None for `none`.
+    /// `max-height`: a length or a percentage, `None` for `none`.
     MaxHeight(Option<Length>),
     /// `margin` and `margin-top` to `margin-left`: a length or a percentage.
     Margin(Sides, Length),
@@ -153,23 +153,23 @@ pub enum Declaration {
     Overflow(Overflow),
     /// `position`
     Position(Position),
-    /// `top`: `auto`, a length or a percentage, negative ones too.
+    /// `top`: `auto`, or a length or percentage, which may be negative.
     Top(Length),
-    /// `right`: `auto`, a length or a percentage, negative ones too.
+    /// `right`: `auto`, or a length or percentage, which may be negative.
     Right(Length),
-    /// `bottom`: `auto`, a length or a percentage, negative ones too.
+    /// `bottom`: `auto`, or a length or percentage, which may be negative.
     Bottom(Length),
-    /// `left`: `auto`, a length or a percentage, negative ones too.
+    /// `left`: `auto`, or a length or percentage, which may be negative.
     Left(Length),
 }
 
-/// Why two words are no declaration.
+/// Why two words aren't a declaration.
 #[derive(Clone, Copy, Debug, PartialEq, Eq, Error)]
 pub enum StyleFault {
     /// There is no property of this name.
     #[error("there is no property of this name")]
     UnknownProperty,
-    /// The property has no such value.
-    #[error("the property has no such value")]
+    /// The value isn't valid for the property.
+    #[error("the value is not valid for the property")]
     BadValue,
 }

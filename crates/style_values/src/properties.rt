@@ -1,4 +1,4 @@
-//! The properties and what each reads.
+//! The properties, and the values that each accepts.
 
 ghost use Rattle.std.specs.Prelude.{◌≡◌, option_map, is_some, IfSome};
 ghost use Rattle.text_io.specs.declared.kinds.Version.{Version};
@@ -15,7 +15,7 @@ use crate::lengths::{auto_or_size, border, inset, none_or_size, size};
 use crate::{Declaration, Sides};
 use text_io::Version;
 
-/// A property, with the sides that it is of.
+/// A property, with the sides that it applies to.
 #[derive(Clone, Copy)]
 pub enum Property {
     Display,
@@ -37,7 +37,7 @@ pub enum Property {
     Left,
 }
 
-/// Those of the first version of the script language.
+/// The properties of the first version of the script language.
 const PROPERTIES: [(&[u8], Property); 24] = [
     (b"display", Property::Display),
     (b"width", Property::Width),
@@ -65,7 +65,7 @@ const PROPERTIES: [(&[u8], Property); 24] = [
     (b"overflow", Property::Overflow),
 ];
 
-/// Those that the second version has besides.
+/// The properties that only the second version has.
 const POSITIONED: [(&[u8], Property); 5] = [
     (b"position", Property::Position),
     (b"top", Property::Top),
@@ -74,21 +74,21 @@ const POSITIONED: [(&[u8], Property); 5] = [
     (b"left", Property::Left),
 ];
 
-/// The property of this name, of those that the first version has.
+/// Returns the property of this name among those of the first version.
 fn unpositioned(name: &[u8]) -> Option<Property>
     ensures { option_map reader_of result ≡ lookup properties name.now }
 {
     lookup(&PROPERTIES, name)
 }
 
-/// The property of this name, of those that the second version has besides.
+/// Returns the property of this name among those that only the second version has.
 fn positioned(name: &[u8]) -> Option<Property>
     ensures { option_map reader_of result ≡ lookup positioned_properties name.now }
 {
     lookup(&POSITIONED, name)
 }
 
-/// The property of this name, of those that a version of the script language has.
+/// Returns the property of this name in either version of the script language.
 pub fn property_named(name: &[u8]) -> Option<Property>
     ensures { option_map reader_of result ≡ property_of Second name.now }
 {
@@ -98,7 +98,7 @@ pub fn property_named(name: &[u8]) -> Option<Property>
     }
 }
 
-/// The first version of the script language that has a property of this name, None where none has.
+/// Returns the first version of the script language that has a property of this name, or `None` if neither has.
 pub fn first_version(name: &[u8]) -> Option<Version>
     ensures { (version : Version) → is_some (property_of version name.now) ≡ reads version result }
 {
@@ -111,7 +111,7 @@ pub fn first_version(name: &[u8]) -> Option<Version>
     None
 }
 
-/// The declaration of a property with the value that the word is, none where the property has no such value.
+/// Parses the word as a value of the property, and returns the declaration, or `None` if the value isn't valid for the property.
 pub fn read_value(property: Property, word: &[u8]) -> Option<Declaration>
     ensures value { option_map seen_declaration result ≡ reader_of property word.now }
     ensures range { IfSome result (λ declaration. IsAllowed declaration) }

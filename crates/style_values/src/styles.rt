@@ -1,4 +1,4 @@
-//! Styles, and declarations that are set in them.
+//! Styles, and applying declarations to them.
 
 ghost use Rattle.std.specs.Prelude.{◌≡◌, unsigned_abs, IfErr, OnOk, OnErr};
 ghost use Rattle.px_units.specs.Lengths.{seen_length};
@@ -10,11 +10,11 @@ ghost use Rattle.style_values.specs.Seen.{seen_sides, seen_style, seen_declarati
 use crate::{BoxSizing, Declaration, Display, Overflow, Position, Sides, Style, StyleFault};
 use px_units::{Length, Px};
 
-/// No length.
+/// A length of 0.
 const NOTHING: Length = Length::Px(Px(0));
 
 impl Style {
-    /// The style of an element that was just made: each property has its initial value (CSS 2.2, 6.1.1).
+    /// Returns the style of a new element: each property has its initial value (CSS 2.2, 6.1.1).
     pub fn new() -> Style
         ensures value { seen_style result ≡ first_style }
         ensures range { IsStyle result }
@@ -103,8 +103,8 @@ impl Style {
         }
     }
 
-    /// Sets one property: a side alone, or by a shorthand all four sides (CSS 2.2, 4.1.8 and 8.3 to 8.5). Each other
-    /// property stays as it was.
+    /// Sets one property: a single side, or, for a shorthand, all four sides (CSS 2.2, 4.1.8 and 8.3 to 8.5). All other
+    /// properties keep their values.
     pub fn apply(&mut self, declaration: Declaration)
         ensures value { seen_style self.new ≡ declared (seen_declaration declaration) (seen_style self.old) }
         ensures range { IsAllowed declaration → IsStyle self.old → IsStyle self.new }
@@ -130,11 +130,11 @@ impl Style {
         }
     }
 
-    /// Reads a declaration from a property's word and a value's word, and sets it. A style that is refused stays as it
-    /// was.
+    /// Parses a declaration from a property's word and a value's word, and applies it.
     ///
-    /// `UnknownProperty` exactly where there is no property of this name; `BadValue` exactly where there is one that
-    /// hasn't this value.
+    /// # Errors
+    /// `UnknownProperty` exactly where there is no property of this name; `BadValue` exactly where there is one but the
+    /// value isn't valid for it. The style is unchanged then.
     pub fn set(&mut self, property: &[u8], value: &[u8]) -> Result<(), StyleFault>
         ensures value { seen_style self.new ≡ set_if_read (declaration_of property.now value.now) (seen_style self.old) }
         ensures unchanged { OnErr result (self.new ≡ self.old) }

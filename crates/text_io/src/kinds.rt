@@ -2,19 +2,20 @@ ghost use Rattle.std.specs.Prelude.{◌≡◌};
 ghost use Rattle.text_io.specs.Kinds.{version_word, limit_word, throw_word, event_word, version_of, limit_of, throw_of, event_of};
 ghost use Rattle.text_io.specs.Limits.{by_version, limit_number, common_limit, IsCommon};
 
-/// A version of the script language. A script names it in its first line.
+/// A version of the script language, which a script names in its first line.
 #[derive(Clone, Copy, Debug, PartialEq, Eq, Hash)]
 pub enum Version {
-    /// The first one.
+    /// Version 1.
     First,
-    /// With device pixels and scroll margins, and with higher limits.
+    /// Version 2: adds device pixels, scroll margins and positioned boxes, and raises some limits.
     Second,
 }
 
 impl Version {
+    /// All versions.
     pub const ALL: [Version; 2] = [Version::First, Version::Second];
 
-    /// The word for it in a script's first line.
+    /// Returns the word for it in a script's first line.
     pub fn text(&self) -> &'static str
         ensures { result.now ≡ version_word self.now }
     {
@@ -24,7 +25,7 @@ impl Version {
         }
     }
 
-    /// The version that this word names.
+    /// Returns the version that this word names, or `None` if there is none.
     #[tactic(auto, unfolding(crate::specs::Kinds::named))]
     pub fn named(word: &[u8]) -> Option<Version>
         ensures { result ≡ version_of word.now }
@@ -36,8 +37,8 @@ impl Version {
     }
 }
 
-/// What a run has a limit of. The first four are met while the script is read, the last two while a source of several texts is, the
-/// others by a command.
+/// What a run has a limit on. The first four limits can be met while the script is read, the last two while a source of several texts
+/// is read, and the others by a command.
 #[derive(Clone, Copy, Debug, PartialEq, Eq, Hash)]
 pub enum LimitKind {
     /// Bytes of the script.
@@ -46,41 +47,41 @@ pub enum LimitKind {
     Line,
     /// Handlers of the script.
     Handlers,
-    /// Blocks inside one another.
+    /// Nested blocks.
     Nesting,
     /// Commands begun.
     Commands,
-    /// Nodes made, in all.
+    /// Nodes created in all.
     Nodes,
-    /// Elements on the path to a root.
+    /// Levels of a tree: elements on the path from a node to its root, both included.
     Depth,
-    /// Documents made, the outermost counted.
+    /// Documents created, including the outermost one.
     Documents,
-    /// Resize observers made.
+    /// Resize observers created.
     ResizeObservers,
-    /// Intersection observers made.
+    /// Intersection observers created.
     IntersectionObservers,
-    /// Resize observations held.
+    /// Resize observations at a time.
     ResizeObservations,
-    /// Intersection observations held.
+    /// Intersection observations at a time.
     IntersectionObservations,
-    /// Listeners held.
+    /// Listeners at a time.
     Listeners,
-    /// Timers pending.
+    /// Pending timers.
     Timers,
-    /// Frame callbacks pending.
+    /// Pending frame callbacks.
     FrameCallbacks,
-    /// Posted tasks that wait.
+    /// Posted tasks that haven't run yet.
     Tasks,
-    /// Query lists made.
+    /// Media query lists created.
     Queries,
-    /// Bytes of a source with a recorded trace.
+    /// Bytes of a source that has a recorded trace.
     Recorded,
     /// Pages of a stream.
     Pages,
 }
 
-/// The number of a version.
+/// Returns the number for this version.
 fn by_version(version: Version, first: u64, second: u64) -> u64
     ensures { result ≡ by_version version first second }
 {
@@ -91,6 +92,7 @@ fn by_version(version: Version, first: u64, second: u64) -> u64
 }
 
 impl LimitKind {
+    /// All limits.
     pub const ALL: [LimitKind; 19] = [
         LimitKind::Script,
         LimitKind::Line,
@@ -113,7 +115,7 @@ impl LimitKind {
         LimitKind::Pages,
     ];
 
-    /// The word for it in a trace.
+    /// Returns the word for it in a trace.
     pub fn text(&self) -> &'static str
         ensures { result.now ≡ limit_word self.now }
     {
@@ -140,7 +142,7 @@ impl LimitKind {
         }
     }
 
-    /// The limit that this word names.
+    /// Returns the limit that this word names, or `None` if there is none.
     #[tactic(auto, unfolding(crate::specs::Kinds::named))]
     pub fn named(word: &[u8]) -> Option<LimitKind>
         ensures { result ≡ limit_of word.now }
@@ -151,8 +153,8 @@ impl LimitKind {
             .find(|kind| kind.text().as_bytes() == word)
     }
 
-    /// The most that a run of a script of this version may hold, in bytes for `Script`, `Line` and `Recorded`, in things of the kind for
-    /// the others. This project's own choice.
+    /// Returns the most that a run of a script of this version may have: bytes for `Script`, `Line` and `Recorded`, and a number of
+    /// things of this kind for the others. The values are this project's own choice.
     pub fn number(&self, version: Version) -> u64
         ensures { result ≡ limit_number version self.now }
     {
@@ -179,7 +181,7 @@ impl LimitKind {
         }
     }
 
-    /// The number of a limit that is the same in each version, as those are that are met before the version is known.
+    /// Returns the value of a limit that is the same in every version, as are those that can be met before the version is known.
     pub fn common(&self) -> u64
         requires { IsCommon self.now }
         ensures { result ≡ common_limit self.now }
@@ -188,24 +190,25 @@ impl LimitKind {
     }
 }
 
-/// The exceptions of DOM and WebIDL that a command can throw.
+/// The exceptions of DOM and Web IDL that a command can throw.
 #[derive(Clone, Copy, Debug, PartialEq, Eq, Hash)]
 pub enum ThrowKind {
-    /// A name stands for nothing.
+    /// A name isn't defined.
     ReferenceError,
-    /// A value is of another kind than is asked for.
+    /// A value isn't of the required kind.
     TypeError,
-    /// A node can't stand there in the tree.
+    /// A node can't be inserted there in the tree.
     HierarchyRequestError,
-    /// A node isn't where it is looked for.
+    /// A node isn't where it was expected in the tree.
     NotFoundError,
-    /// A text doesn't parse.
+    /// A string can't be parsed.
     SyntaxError,
-    /// A number is out of its range.
+    /// A number is out of range.
     RangeError,
 }
 
 impl ThrowKind {
+    /// All exceptions.
     pub const ALL: [ThrowKind; 6] = [
         ThrowKind::ReferenceError,
         ThrowKind::TypeError,
@@ -215,7 +218,7 @@ impl ThrowKind {
         ThrowKind::RangeError,
     ];
 
-    /// The name of the exception, as a trace gives it.
+    /// Returns the name of the exception, as it appears in a trace.
     pub fn text(&self) -> &'static str
         ensures { result.now ≡ throw_word self.now }
     {
@@ -229,7 +232,7 @@ impl ThrowKind {
         }
     }
 
-    /// The exception of this name.
+    /// Returns the exception of this name, or `None` if there is none.
     #[tactic(auto, unfolding(crate::specs::Kinds::named))]
     pub fn named(word: &[u8]) -> Option<ThrowKind>
         ensures { result ≡ throw_of word.now }
@@ -244,17 +247,18 @@ impl ThrowKind {
 /// The events that listeners can be registered for.
 #[derive(Clone, Copy, Debug, PartialEq, Eq, Hash)]
 pub enum EventKind {
-    /// A viewport has another size (CSSOM View, resize steps).
+    /// The size of a viewport changed (CSSOM View, run the resize steps).
     Resize,
-    /// A position was scrolled to (CSSOM View, scroll steps).
+    /// An element or a viewport was scrolled (CSSOM View, run the scroll steps).
     Scroll,
-    /// Observations were left undelivered (Resize Observer).
+    /// Resize observations were left undelivered (Resize Observer, deliver resize loop error).
     Error,
-    /// A media query list matches otherwise than before (CSSOM View).
+    /// A media query list started or stopped matching (CSSOM View).
     Change,
 }
 
 impl EventKind {
+    /// All events.
     pub const ALL: [EventKind; 4] = [
         EventKind::Resize,
         EventKind::Scroll,
@@ -262,7 +266,7 @@ impl EventKind {
         EventKind::Change,
     ];
 
-    /// The type of the event, as scripts and traces give it.
+    /// Returns the type of the event, as it appears in scripts and traces.
     pub fn text(&self) -> &'static str
         ensures { result.now ≡ event_word self.now }
     {
@@ -274,7 +278,7 @@ impl EventKind {
         }
     }
 
-    /// The event of this type.
+    /// Returns the event of this type, or `None` if there is none.
     #[tactic(auto, unfolding(crate::specs::Kinds::named))]
     pub fn named(word: &[u8]) -> Option<EventKind>
         ensures { result ≡ event_of word.now }

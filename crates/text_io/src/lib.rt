@@ -1,4 +1,4 @@
-//! Bytes in and out: sources and sinks with a count of their faults, whole texts read and written, and the
+//! Byte sources and sinks that count their failed calls, reading and writing of whole texts, and the
 //! names and kinds that scripts and traces share.
 #![tactic(auto)]
 

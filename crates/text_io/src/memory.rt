@@ -8,7 +8,7 @@ use crate::streams::{Failed, Sink, Source};
 use std::alloc::{AllocError, Global};
 use std::marker::Model;
 
-/// A source of given bytes, of which some calls fail. A contract sees it as the bytes left, the most that a call
+/// A source that gives the bytes of a buffer and fails chosen calls. A contract sees the bytes left, the most that a call
 /// gives, the numbers of the calls that fail, and the counts of calls and of faults.
 #[derive(Drop)]
 pub struct MemorySource {
@@ -38,8 +38,8 @@ impl Model for MemorySource {
 }
 
 impl MemorySource {
-    /// A source that gives `bytes`, at most `piece` of them a call, where 0 stands for 1, and fails the calls
-    /// numbered in `failing`, of which the first call is 0. The count of calls stops at 2^64 - 1.
+    /// Creates a source that gives `bytes`, at most `piece` of them per call (0 means 1), and fails the calls whose
+    /// numbers, from 0, are in `failing`. The count of calls saturates at 2^64 - 1.
     pub fn new(bytes: Vec<u8>, piece: usize, failing: Vec<u64>) -> MemorySource
         ensures { result ≡ record {
           left = bytes.items;
@@ -90,7 +90,7 @@ impl Source for MemorySource {
     }
 }
 
-/// A sink with a given room, of which some calls fail. A contract sees it as the bytes taken, the room in all, the
+/// A sink with a fixed capacity that fails chosen calls. A contract sees the bytes taken, the total capacity, the
 /// most that a call takes, the numbers of the calls that fail, and the counts of calls and of faults.
 #[derive(Drop)]
 pub struct MemorySink {
@@ -121,9 +121,9 @@ impl Model for MemorySink {
 }
 
 impl MemorySink {
-    /// A sink with room for `room` bytes, which are allocated here. It takes at most `piece` of them a call, where 0
-    /// stands for 1, and fails the calls numbered in `failing`, of which the first call is 0, and those that find
-    /// no room left. The count of calls stops at 2^64 - 1.
+    /// Creates a sink for `room` bytes, which are allocated here. It takes at most `piece` bytes per call (0 means 1), and
+    /// fails the calls whose numbers, from 0, are in `failing`, and those made when it is full. The count of calls
+    /// saturates at 2^64 - 1.
     pub fn new(
         alloc: Global,
         room: usize,
@@ -149,7 +149,7 @@ impl MemorySink {
         })
     }
 
-    /// What it took.
+    /// Returns the bytes taken so far.
     pub fn taken(&self) -> &[u8]
         ensures { result.now ≡ self.now.taken }
     {

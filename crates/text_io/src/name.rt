@@ -13,7 +13,7 @@ use std::hash::{Hash, Hasher};
 use std::marker::Model;
 use word_model::is_name;
 
-/// The most bytes of a name.
+/// The most bytes that a name has.
 const LONGEST: usize = 32;
 
 /// A name of 1 to 32 bytes: a letter, then letters, digits, `_` or `-`. A contract sees it as its bytes.
@@ -43,7 +43,7 @@ impl Model for Name {
 }
 
 impl Name {
-    /// The word as a name, or none exactly where it isn't one.
+    /// Returns the word as a name, or `None` exactly if it isn't one.
     pub fn read(word: &[u8]) -> Option<Name>
         ensures some { IfSome result (λ name. name ≡ word.now) }
         ensures named { IfSome result (λ _. is_name word.now ≡ true) }
@@ -60,7 +60,7 @@ impl Name {
         })
     }
 
-    /// Its bytes.
+    /// Returns the bytes of the name.
     pub fn bytes(&self) -> &[u8]
         ensures value { result.now ≡ self.now }
         ensures named { is_name self.now ≡ true }

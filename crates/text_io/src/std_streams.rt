@@ -4,8 +4,8 @@ use crate::streams::{Failed, Sink, Source};
 use std::io::{Read, Write};
 use std::marker::Model;
 
-/// A reader of std as a source. It tells the bytes left where the reader tells them, and counts each read that
-/// failed. A contract sees it as these two.
+/// A std reader as a source. It specifies the bytes left if the reader does, and counts each read that
+/// failed. A contract sees these two.
 #[derive(Drop)]
 pub struct StdSource<R: Read> {
     inner: R,
@@ -21,7 +21,7 @@ impl<R: Read> Model for StdSource<R> {
 }
 
 impl<R: Read> StdSource<R> {
-    /// A source that reads from `inner`, with no fault yet.
+    /// Creates a source that reads from `inner`, with a fault count of 0.
     pub fn new(inner: R) -> StdSource<R>
         ensures { result ≡ record { left = R.remaining inner; faults = 0 } }
     {
@@ -45,8 +45,8 @@ impl<R: Read> Source for StdSource<R> {
     }
 }
 
-/// A writer of std as a sink. It tells the bytes taken where the writer tells them, and counts each write that
-/// failed or took no byte. A contract sees it as these two.
+/// A std writer as a sink. It specifies the bytes taken if the writer does, and counts each write that
+/// failed or took no byte, which is a failure too. A contract sees these two.
 #[derive(Drop)]
 pub struct StdSink<W: Write> {
     inner: W,
@@ -62,7 +62,7 @@ impl<W: Write> Model for StdSink<W> {
 }
 
 impl<W: Write> StdSink<W> {
-    /// A sink that writes to `inner`, with no fault yet.
+    /// Creates a sink that writes to `inner`, with a fault count of 0.
     pub fn new(inner: W) -> StdSink<W>
         ensures { result ≡ record { taken = W.contents inner; faults = 0 } }
     {

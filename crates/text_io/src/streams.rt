@@ -10,7 +10,7 @@ use thiserror::Error;
 #[derive(Clone, Copy, Debug, PartialEq, Eq)]
 pub struct Failed;
 
-/// Why a whole text wasn't read or written.
+/// Why a whole text couldn't be read or written.
 #[derive(Clone, Copy, Debug, PartialEq, Eq, Error)]
 pub enum TextFault {
     /// A read failed.
@@ -19,28 +19,27 @@ pub enum TextFault {
     /// A write failed.
     #[error("a write failed")]
     WriteFault,
-    /// More bytes were given than the limit allows.
+    /// The source gave more bytes than the limit allows.
     #[error("more bytes than the limit allows")]
     TooLong {
-        /// How many line feeds there are among the bytes within the limit.
+        /// The number of line feeds among the bytes within the limit.
         feeds: u32,
     },
-    /// No memory was left.
+    /// Out of memory.
     #[error("out of memory")]
     Memory,
 }
 
-/// Bytes that come in pieces.
+/// A source of bytes, which it gives in pieces.
 pub trait Source {
-    // The bytes left, where the source tells them.
+    // The bytes left, if the source specifies them.
     ghost left: { Self → Option (List ℕ) };
 
-    // How many reads failed, up to the end of the count.
+    // How many reads failed; the count saturates.
     ghost faults: { Self → ℕ };
 
-    /// Gives the first bytes left, which then are the first of the buffer, and how many they are. It gives none
-    /// exactly at the end. What the buffer holds after them isn't said. A read that fails gives
-    /// nothing, and is counted.
+    /// Reads the next bytes into the start of the buffer, and returns how many. It returns 0 exactly at the end. The rest of
+    /// the buffer is unspecified. A read that fails consumes nothing, and is counted.
     fn read(&mut self, into: &mut [u8]) -> Result<usize, Failed>
         requires { 0 < length into.old }
         ensures within { ReadsAtMost result into.new }
@@ -50,15 +49,15 @@ pub trait Source {
         ensures never_falls { faults self.old ≤ faults self.new };
 }
 
-/// A place for bytes that takes them in pieces.
+/// A sink for bytes, which it takes in pieces.
 pub trait Sink {
-    // The bytes taken, where the sink tells them.
+    // The bytes taken, if the sink specifies them.
     ghost taken: { Self → Option (List ℕ) };
 
-    // How many writes failed, up to the end of the count.
+    // How many writes failed; the count saturates.
     ghost faults: { Self → ℕ };
 
-    /// Takes the first bytes of the piece, at least one, and says how many. A write that fails takes nothing, and is
+    /// Takes the first bytes of the piece, at least one, and returns how many. A write that fails takes nothing, and is
     /// counted.
     fn write(&mut self, piece: &[u8]) -> Result<usize, Failed>
         requires { 0 < length piece.now }
@@ -70,14 +69,15 @@ pub trait Sink {
         ensures never_falls { faults self.old ≤ faults self.new };
 }
 
-// How many bytes a text is read by.
+// The most bytes per read.
 const PIECE: usize = 4096;
 
-/// All the bytes that the source has left, of which there are at most `limit`; it is at its end then.
+/// Reads all the bytes that the source has left, at most `limit`; the source is then at its end.
 ///
-/// - `ReadFault` only where the source's count of faults rose in this call.
-/// - `TooLong` exactly where more than `limit` bytes were given: `limit + 1` of them were taken then.
-/// - `Memory` for want of memory.
+/// # Errors
+/// - `ReadFault` only where the source's fault count rose in this call.
+/// - `TooLong` only where the source had more than `limit` bytes left; `limit + 1` of them have been consumed.
+/// - `Memory` if an allocation fails.
 pub fn read_all<S: Source>(
     alloc: Global,
     source: &mut S,
@@ -109,7 +109,7 @@ pub fn read_all<S: Source>(
     Err(TextFault::TooLong { feeds })
 }
 
-/// How many line feeds there are. No memory is taken.
+/// Returns the number of line feeds. Allocates nothing.
 pub fn line_feeds(bytes: &[u8]) -> u32
     requires { length bytes.now < 2 ^ 32 }
     ensures number { result ≡ count_by (λ b. b == 10) bytes.now }
@@ -118,10 +118,11 @@ pub fn line_feeds(bytes: &[u8]) -> u32
     bytes.iter().filter(|byte| **byte == b'\n').count() as u32
 }
 
-/// Has the sink take the whole piece, in as many writes as it wants; an empty piece takes none.
+/// Writes the whole piece to the sink, in as many writes as it takes; none for an empty piece. Allocates nothing.
 ///
-/// `WriteFault` comes only where the sink's count of faults rose in this call, and a first part of the piece was
-/// taken then. No other fault comes, and no memory is taken.
+/// # Errors
+/// `WriteFault`, and no other fault, only where the sink's fault count rose in this call; a proper prefix of the piece has
+/// been taken then.
 pub fn write_all<K: Sink>(sink: &mut K, bytes: &[u8]) -> Result<(), TextFault>
     ensures whole { OnOk result (Appends (K.taken sink.old) (K.taken sink.new) bytes.now) }
     ensures part { OnErr result (TakesPart (K.taken sink.old) (K.taken sink.new) bytes.now) }

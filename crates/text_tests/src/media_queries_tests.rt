@@ -1,4 +1,4 @@
-//! Texts with their faults, matches and printed forms, by tables.
+//! Texts with their faults, matches and printed forms, by tables, at other texts than those of the laws in `script_model/src/texts.rt`.
 
 use media_queries::{Query, QueryFault};
 use px_units::Size;
@@ -6,14 +6,10 @@ use std::alloc::{AllocError, Global};
 use std::test::Fail;
 
 /// A text, and the column of its fault, none where it is a list.
-const TEXTS: [(&str, Option<u32>); 48] = [
+const TEXTS: [(&str, Option<u32>); 44] = [
     ("all", None),
     ("screen , print", None),
     ("\tall", Some(1)),
-    ("screem", Some(6)),
-    ("scre", Some(5)),
-    ("", Some(1)),
-    ("all ", Some(5)),
     ("all,", Some(5)),
     ("all, ,screen", Some(6)),
     ("all,screen", None),
@@ -60,13 +56,12 @@ const TEXTS: [(&str, Option<u32>); 48] = [
     ("((width:1px))", Some(2)),
 ];
 
-/// A list, the width and height of a viewport, and whether it matches.
-const VIEWPORTS: [(&str, i64, i64, bool); 19] = [
+/// A list, the width and height of a viewport in 1/64 pixel, and whether it matches.
+const VIEWPORTS: [(&str, i64, i64, bool); 18] = [
     ("all", 0, 0, true),
     ("print", 640, 640, false),
     ("not print", 640, 640, true),
     ("only screen", 1, 2, true),
-    ("(orientation: portrait)", 640, 640, true),
     ("(orientation: landscape)", 640, 640, false),
     ("(orientation: landscape)", 641, 640, true),
     (
@@ -132,9 +127,12 @@ const PRINTED: [(&str, &str); 13] = [
     ),
 ];
 
-// The column of a text's fault, none for a list.
+/// No text that is read here is longer, so that `Query::parse` takes each.
+const LONGEST: usize = 4096;
+
+// The column of a text's fault, none for a list, and 0, which is no column, for anything else.
 fn fault_of(alloc: Global, text: &[u8]) -> Option<u32> {
-    if text.len() > 4096 {
+    if text.len() > LONGEST {
         return Some(0);
     }
     match Query::parse(alloc, text) {
@@ -146,7 +144,7 @@ fn fault_of(alloc: Global, text: &[u8]) -> Option<u32> {
 
 // The list of a text that is one.
 fn parsed(alloc: Global, text: &[u8]) -> Result<Query, AllocError> {
-    if text.len() > 4096 {
+    if text.len() > LONGEST {
         return Err(AllocError);
     }
     Query::parse(alloc, text).map_err(|_| AllocError)

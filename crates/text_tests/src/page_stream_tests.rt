@@ -3,6 +3,9 @@
 use page_stream::{Part, StreamFault, split};
 use std::test::Fail;
 
+/// The limit `pages` of `docs/SCRIPT.md`.
+const MOST_PAGES: usize = 8;
+
 /// Two pages in turn, of which the first comes back.
 const STREAM: &[u8] = b"page a\nscript 1\npage b\r\nscript 1\nremove z\npage a\ntick 0\n";
 
@@ -71,7 +74,7 @@ const NO_STREAMS: [&[u8]; 9] = [
 
 #[test]
 fn pages_and_parts_of_a_stream(rt: HostRuntime) -> Result<(), Fail> {
-    let stream = split(rt.alloc(), STREAM, 8)?;
+    let stream = split(rt.alloc(), STREAM, MOST_PAGES)?;
     let names: [&[u8]; 2] = [b"a", b"b"];
     assert_eq!(&rt; stream.pages().len(), names.len());
     for (page, name) in stream.pages().iter().zip(names.iter()) {
@@ -88,7 +91,7 @@ fn pages_and_parts_of_a_stream(rt: HostRuntime) -> Result<(), Fail> {
 #[test]
 fn scripts_of_first_pages(rt: HostRuntime) -> Result<(), Fail> {
     for (source, script) in FIRST_SCRIPTS.iter() {
-        let stream = split(rt.alloc(), source, 8)?;
+        let stream = split(rt.alloc(), source, MOST_PAGES)?;
         assert_eq!(&rt; stream.pages().is_empty(), false);
         if !stream.pages().is_empty() {
             assert_eq!(&rt; stream.script(rt.alloc(), 0)?.as_slice(), *script);
@@ -100,7 +103,7 @@ fn scripts_of_first_pages(rt: HostRuntime) -> Result<(), Fail> {
 #[test]
 fn a_page_too_many(rt: HostRuntime) -> Result<(), Fail> {
     assert_eq!(&rt;
-        split(rt.alloc(), NINE, 8).err(),
+        split(rt.alloc(), NINE, MOST_PAGES).err(),
         Some(StreamFault::TooManyPages { line: 11 })
     );
     assert_eq!(&rt; split(rt.alloc(), NINE, 10)?.pages().len(), 10);
@@ -119,7 +122,7 @@ fn a_page_too_many(rt: HostRuntime) -> Result<(), Fail> {
 fn sources_that_are_no_streams(rt: HostRuntime) {
     for source in NO_STREAMS.iter() {
         assert_eq!(&rt;
-            split(rt.alloc(), source, 8).err(),
+            split(rt.alloc(), source, MOST_PAGES).err(),
             Some(StreamFault::NoPage)
         );
     }

@@ -1,4 +1,4 @@
-//! Lengths as texts and against a basis, and rectangles.
+//! Lengths as texts, at others than those of the law `texts_of_units`, and against a basis, and rectangles.
 
 use px_units::{
     Length, LengthFault, Percent, Px, Rect, area, meet, print_px, read_percent, read_px, resolve,
@@ -9,18 +9,13 @@ use std::test::Fail;
 #[test]
 fn lengths_are_printed_exactly(rt: HostRuntime) -> Result<(), Fail> {
     let rows = [
-        (0, "0"),
-        (1, "0.015625"),
         (2, "0.03125"),
         (63, "0.984375"),
         (64, "1"),
-        (-32, "-0.5"),
-        (51200, "800"),
         (-64000000, "-1000000"),
-        (2147483647, "33554431.984375"),
-        (-2251799813685248, "-35184372088832"),
-        (9223372036854775807, "144115188075855871.984375"),
-        (-9223372036854775808, "-144115188075855872"),
+        (2147483647, "33554431.984375"), // 2^31 - 1, at which a resolved length is capped
+        (-2251799813685248, "-35184372088832"), // -2^51
+        (-9223372036854775808, "-144115188075855872"), // the least number of 64 bits
     ];
     for (units, text) in rows {
         assert_eq!(rt;
@@ -35,7 +30,6 @@ fn lengths_are_printed_exactly(rt: HostRuntime) -> Result<(), Fail> {
 #[test]
 fn texts_are_read(rt: HostRuntime) {
     let rows = [
-        ("-0.99px", Ok(Px(-63))),
         ("1000000px", Ok(Px(64000000))),
         ("-12345678px", Err(LengthFault::OutOfRange)),
         ("5%", Err(LengthFault::NotALength)),

@@ -31,20 +31,16 @@ tick 16
 ";
 
 /// A script in free form, and its text.
-const ROWS: [(&str, &str); 10] = [
+const ROWS: [(&str, &str); 9] = [
     (FREE, PRINTED),
     ("script 1", "script 1\n"),
-    (
-        "script 1\n\n  viewport 800.50px   600px # size\n",
-        "script 1\n\nviewport 800.5px 600px\n",
-    ),
     (
         "script 1\nhandler show\neach\nwhen not seen\nsay out\nend\n\nend\nend\ntick 16",
         "script 1\nhandler show\neach\nwhen not seen\nsay out\nend\n\nend\nend\ntick 16\n",
     ),
     (
-        "script 1\nblock a top\nset a margin-left 12.50%\ngrow a width -1.0px\nset a max-width none\n",
-        "script 1\nblock a top\nset a margin-left 12.5%\ngrow a width -1px\nset a max-width none\n",
+        "script 1\nblock a top\ngrow a width -1.0px\nset a max-width none\n",
+        "script 1\nblock a top\ngrow a width -1px\nset a max-width none\n",
     ),
     (
         "script 1\nmedia q top not screen and ( min-width : 10px ) , (width:1px) or (height:1px)\n",

@@ -208,6 +208,8 @@ fn line_of(item: &Item) -> u32 {
     }
 }
 
+// Of `EVERY_COMMAND`: its lines 2 to 33, the handler on line 34, which holds an `each`, a `when` on the lines 42 and 44 each, and the empty
+// handler on line 46.
 fn see_items(rt: &impl Abort, script: &Script) {
     assert_eq!(rt; script.items().len(), 36);
     assert_eq!(rt; script.items().last().map(line_of), Some(46));

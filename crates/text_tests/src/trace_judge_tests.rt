@@ -48,9 +48,8 @@ const DEVICE_RECORDED: [(&str, Judgement); 5] = [
     ),
 ];
 
-/// Recorded traces beside the trace of that script.
-const RECORDED: [(&str, Judgement); 18] = [
-    (TRACE, Judgement::Equal { lines: 3 }),
+/// Recorded traces beside `TRACE`: two more are in `a_recorded_trace_is_judged`, which the README shows.
+const RECORDED: [(&str, Judgement); 16] = [
     (
         "tick 0\nresize o r rect 0 0 800 0 border 800 0\nround top 1\ntick 16\n",
         Judgement::Differs {
@@ -76,13 +75,6 @@ const RECORDED: [(&str, Judgement); 18] = [
         "",
         Judgement::Differs {
             line: 1,
-            how: How::Missing,
-        },
-    ),
-    (
-        "tick 0\n",
-        Judgement::Differs {
-            line: 2,
             how: How::Missing,
         },
     ),

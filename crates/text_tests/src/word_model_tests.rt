@@ -1,4 +1,4 @@
-//! Words with what they come to, and digits of numbers.
+//! Words with what they come to, at others than those of the law `forms_at_texts`, and digits of numbers.
 
 use std::test::Fail;
 use word_model::{
@@ -6,7 +6,8 @@ use word_model::{
     whole,
 };
 
-/// A word; as a whole number, a signed length, a signed percentage and a number; whether it is a decimal with `px`.
+/// A word; as a whole number, a signed length in 1/64 pixel, a signed percentage in hundredths and a number in ten-thousandths; whether
+/// it is a decimal with `px`. The bounds are those of `docs/SCRIPT.md`.
 type Row = (
     &'static str,
     Option<u64>,
@@ -16,9 +17,9 @@ type Row = (
     bool,
 );
 
-const ROWS: [Row; 24] = [
+const ROWS: [Row; 23] = [
     ("0", Some(0), None, None, Some(0), false),
-    ("00", None, None, None, Some(0), false),
+    ("007", None, None, None, Some(70000), false),
     (
         "1000000000000",
         Some(1000000000000),
@@ -29,12 +30,11 @@ const ROWS: [Row; 24] = [
     ),
     ("1000000000001", None, None, None, None, false),
     ("99999999999999999999999", None, None, None, None, false),
-    ("0.5px", None, Some(32), None, None, true),
     ("0.01px", None, Some(0), None, None, true),
     ("0.02px", None, Some(1), None, None, true),
     ("-0.5px", None, Some(-32), None, None, true),
     ("1000000.00px", None, Some(64000000), None, None, true),
-    ("1000000.01px", None, None, None, None, true),
+    ("-1000000.01px", None, None, None, None, true),
     ("12345678px", None, None, None, None, true),
     ("1.234px", None, None, None, None, true),
     ("1.px", None, None, None, None, false),
@@ -45,7 +45,7 @@ const ROWS: [Row; 24] = [
     ("10000%", None, None, Some(1000000), None, false),
     ("10000.01%", None, None, None, None, false),
     ("7", Some(7), None, None, Some(70000), false),
-    ("-0.25", None, None, None, Some(-2500), false),
+    ("-0.0001", None, None, None, Some(-1), false),
     (
         "123456789.1234",
         None,
@@ -71,8 +71,8 @@ fn words_have_their_forms(rt: HostRuntime) {
             "{text} as a decimal with px"
         );
     }
-    assert_eq!(rt; length(b"99.99px"), Some(6399));
-    assert_eq!(rt; percent(b"12.5%"), Some(1250));
+    assert_eq!(rt; length(b"99.99px"), Some(6399)); // cut from 6,399.36 units
+    assert_eq!(rt; percent(b"12.5%"), Some(1250)); // hundredths
 }
 
 #[test]
@@ -85,7 +85,7 @@ fn names_begin_with_a_letter(rt: HostRuntime) {
         ("-a", false),
         ("_a", false),
         ("a.b", false),
-        ("abcdefghijklmnopqrstuvwxyz012345", true),
+        ("abcdefghijklmnopqrstuvwxyz012345", true), // 32 bytes, the most
         ("abcdefghijklmnopqrstuvwxyz0123456", false),
     ];
     for (text, want) in rows {

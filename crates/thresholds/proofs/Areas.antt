@@ -4,6 +4,7 @@ use Rattle.std.specs.Prelude.{ℤ, pos, ◌≤ℤ◌, ◌-ℤ◌, unsigned_abs, 
 use Rattle.std.specs.Int.{int_min, int_max}
 use Rattle.std.proofs.lemmas.Int.{ints}
 use Rattle.std.proofs.lemmas.Nat.{mul-le}
+use Rattle.std.proofs.lemmas.Bool.{and_parts}
 use Rattle.px_units.specs.declared.Rect.{Rect}
 use Rattle.px_units.specs.Rects.{area, has_points, meeting, overlap}
 use Rattle.page_model.specs.Chains.{common_part}
@@ -18,13 +19,9 @@ le_true a b h = grind (arith, ints)
 pub le_of : (a b : ℤ) → int_le a b ≡ true → a ≤ℤ b
 le_of a b e = grind (arith, ints)
 
-pub in_order : (p q : Bool) → p && q ≡ true → (p ≡ true) × (q ≡ true)
-in_order true q e = (refl, e)
-in_order false q e = cc
-
 sides_of : (r : Rect) → has_points r ≡ true → (r.left ≤ℤ r.right) × (r.top ≤ℤ r.bottom)
 sides_of r points =
-    let order = in_order (int_le r.left r.right) (int_le r.top r.bottom) points in
+    let order = and_parts (int_le r.left r.right) (int_le r.top r.bottom) points in
     (le_of r.left r.right order.0, le_of r.top r.bottom order.1)
 
 area_is : (r : Rect) → r.left ≤ℤ r.right → r.top ≤ℤ r.bottom → area r ≡ unsigned_abs (r.right -ℤ r.left) * unsigned_abs (r.bottom -ℤ r.top)

@@ -1,8 +1,8 @@
--- What is seen of a box.
+-- The visible part of a box.
 use Rattle.std.specs.Prelude.{◌≤ℤ◌}
 use Rattle.px_units.specs.declared.Rect.{Rect}
 
--- a rectangle that doesn't reach beyond another one
+-- the inner rectangle doesn't extend beyond the outer one
 pub record LiesIn (outer inner : Rect) : Type 0 where
   pub left : outer.left ≤ℤ inner.left
   pub top : outer.top ≤ℤ inner.top

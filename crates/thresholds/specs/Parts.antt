@@ -15,12 +15,12 @@ abbrev pub part_for : MarginPart → Part
 part_for (MarginPixels units) = Pixels (record { 0 = units })
 part_for (MarginPercentage hundredths) = Percentage (record { 0 = hundredths })
 
--- up to 1,000,000 pixels or 10,000 percent, to either side
+-- at most 1,000,000 pixels or 10,000 percent, positive or negative
 abbrev pub IsWithinForm : Part → Type 0
 IsWithinForm (Pixels px) = (negsuc 63999999 ≤ℤ px.0) × (px.0 ≤ℤ pos 64000000)
 IsWithinForm (Percentage percent) = (negsuc 999999 ≤ℤ percent.0) × (percent.0 ≤ℤ pos 1000000)
 
--- the texts of the parts that stand behind a space, none where no space is there
+-- the texts of the parts behind a space, none if there is no space
 abbrev pub texts_behind : Option (List ℕ) → List (List ℕ)
 texts_behind None = []
 texts_behind (Some text) = split_at_spaces text
@@ -29,6 +29,6 @@ texts_behind (Some text) = split_at_spaces text
 abbrev pub read_all : List ℕ → Option (List MarginPart)
 read_all text = parts_read (split_at_spaces text)
 
--- a part in front of others, none where they aren't read
+-- a part and the others behind it, none if those can't be read
 abbrev pub after : MarginPart → Option (List MarginPart) → Option (List MarginPart)
 after part others = option_map (λ rest. part ∷ rest) others

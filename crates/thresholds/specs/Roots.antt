@@ -19,12 +19,12 @@ pub record IsRootRect (root : Rect) : Type 0 where
   pub bottom : IsRootEdge root.bottom
   pub width : IsRootWidth (root.right -ℤ root.left)
 
--- what a margin moves an edge by: at most 100 widths
+-- how far a margin moves an edge: at most 100 times the largest width of a root rectangle
 pub record IsMargin (units : ℤ) : Type 0 where
   pub low : negsuc 439804651110399 ≤ℤ units
   pub high : units ≤ℤ pos 439804651110400
 
--- a rectangle each of whose edges is moved by at most so much
+-- each edge of a rectangle is moved at most that far
 pub record IsNear (root moved : Rect) : Type 0 where
   pub left : IsMargin (moved.left -ℤ root.left)
   pub top : IsMargin (moved.top -ℤ root.top)

@@ -1,4 +1,4 @@
--- Margins are given back by what they stand for.
+-- Margins are determined by what they stand for: converted there and back they are the same.
 use Rattle.std.specs.Prelude.{◌≡◌, refl}
 use Rattle.std.proofs.Common.{ap, ◌∙◌}
 use Rattle.thresholds.specs.declared.parts.Part.{Part}

@@ -1,4 +1,4 @@
-//! Laws of the definitions, each the clause of a function that does nothing.
+//! Laws of the definitions, each stated as the contract of an empty function.
 
 ghost use Rattle.std.specs.Prelude.{◌≡◌, ◌<◌, ℕ, ℤ, pos, List, length, map, Some, None, false};
 ghost use Rattle.std.specs.List.Sorted.{IsNonDecreasing, IsPermutation};
@@ -15,7 +15,7 @@ pub fn thresholds_are_the_values_in_order()
     ensures kept { (values : List ℤ) (thresholds : List ℕ) → thresholds_of values ≡ Some thresholds → 0 < length values → IsPermutation values (map pos thresholds) }
 {}
 
-/// A root rectangle that margins moved across itself has no point in common with any rectangle.
+/// A root rectangle that the margins have inverted (an edge moved past the opposite one) intersects no rectangle.
 #[tactic(auto, using(crate::proofs::Crossing::crossed_root))]
 pub fn crossed_root_meets_nothing()
     ensures { (margins : RootMargins) (root other : Rect) → has_points (moved_out margins root) ≡ false → meeting other (moved_out margins root) ≡ None }

@@ -13,16 +13,16 @@ pub use ratios::{NOTHING, Ratio, ratio_of};
 use thiserror::Error;
 pub use thresholds::Thresholds;
 
-/// Why no margins or thresholds were made.
+/// Why margins or thresholds couldn't be created.
 #[derive(Clone, Copy, Debug, PartialEq, Eq, Error)]
 pub enum ThresholdFault {
-    /// The text isn't that of a root margin.
-    #[error("not the text of a margin")]
+    /// The text isn't a margin in the syntax of `rootMargin`.
+    #[error("not a valid margin")]
     MarginSyntax,
     /// A threshold is below 0 or above 1.
     #[error("a threshold is below 0 or above 1")]
     ThresholdRange,
-    /// Memory was refused.
+    /// Out of memory.
     #[error("out of memory")]
     Memory,
 }

@@ -11,8 +11,8 @@ use crate::parts::{Part, first_part, units};
 use px_units::{Px, Rect};
 use std::marker::Model;
 
-/// The four root margins of an intersection observer (Intersection Observer, 2.2.1: `rootMargin`). A clause sees them
-/// as the margins of the definitions.
+/// The four root margins of an intersection observer (Intersection Observer, 2.2.1: `rootMargin`). Contracts see them as the
+/// margins of the definitions.
 #[derive(Clone, Copy)]
 pub struct Margins {
     top: Part,
@@ -38,7 +38,7 @@ impl Model for Margins {
     ghost inverse_ok = { λ m _. made_again m };
 }
 
-/// Margins of these parts.
+/// Builds margins from four components.
 fn sides(top: Part, right: Part, bottom: Part, left: Part) -> Margins
     requires top { IsWithinForm top }
     requires right { IsWithinForm right }
@@ -54,7 +54,7 @@ fn sides(top: Part, right: Part, bottom: Part, left: Part) -> Margins
     }
 }
 
-/// The rectangle with each edge moved outward by so many units.
+/// Returns the rectangle with each edge moved outward by the given number of units.
 #[tactic(auto, using(crate::proofs::Sums::less, crate::proofs::Sums::more))]
 fn outward(root: Rect, left: i64, top: i64, right: i64, bottom: i64) -> Rect
     requires root { IsRootRect root }
@@ -74,7 +74,7 @@ fn outward(root: Rect, left: i64, top: i64, right: i64, bottom: i64) -> Rect
     }
 }
 
-/// The margins whose first three parts are these, and whose others a text gives.
+/// Parses the fourth component, the first three being given.
 #[tactic(auto, using(crate::proofs::Reading::too_many, crate::proofs::Reading::never_empty), unfolding(script_model::specs::MarginText::completed, script_model::specs::MarginText::parts_read))]
 fn from_fourth(top: Part, right: Part, bottom: Part, text: &[u8]) -> Option<Margins>
     requires top { IsWithinForm top }
@@ -89,7 +89,7 @@ fn from_fourth(top: Part, right: Part, bottom: Part, text: &[u8]) -> Option<Marg
     }
 }
 
-/// The margins whose first two parts are these, and whose others a text gives.
+/// Parses the third and any further component, the first two being given.
 #[tactic(auto, unfolding(script_model::specs::MarginText::completed, script_model::specs::MarginText::parts_read))]
 fn from_third(top: Part, right: Part, text: &[u8]) -> Option<Margins>
     requires top { IsWithinForm top }
@@ -103,7 +103,7 @@ fn from_third(top: Part, right: Part, text: &[u8]) -> Option<Margins>
     }
 }
 
-/// The margins whose first part is this one, and whose others a text gives.
+/// Parses the second and any further component, the first being given.
 #[tactic(auto, unfolding(script_model::specs::MarginText::completed, script_model::specs::MarginText::parts_read))]
 fn from_second(top: Part, text: &[u8]) -> Option<Margins>
     requires { IsWithinForm top }
@@ -116,7 +116,7 @@ fn from_second(top: Part, text: &[u8]) -> Option<Margins>
     }
 }
 
-/// The margins of a text that isn't empty.
+/// Parses a text that isn't empty.
 #[tactic(auto, using(crate::proofs::Reading::margins_is), unfolding(script_model::specs::MarginText::completed, script_model::specs::MarginText::parts_read))]
 fn read_margins(text: &[u8]) -> Option<Margins>
     requires { 0 < length text.now }
@@ -130,14 +130,14 @@ fn read_margins(text: &[u8]) -> Option<Margins>
 }
 
 impl Margins {
-    /// The root margins that a text gives (Intersection Observer, 3.1: parse a root margin): zero to four parts with
-    /// single spaces between them, each a number with `px` or `%`, completed to top, right, bottom and left as in CSS.
-    /// No part means 0px on each side.
+    /// Parses root margins (Intersection Observer, 3.1: parse a root margin): zero to four components separated by single
+    /// spaces, each a number with `px` or `%`, completed to top, right, bottom and left as in CSS. An empty text means 0px on
+    /// each side.
     ///
-    /// A number is an optional `-`, 1 to 7 digits, and optionally a point and 1 or 2 digits; it is at most 1,000,000 pixels,
-    /// cut toward zero to units of 1/64 pixel, or 10,000 percent.
+    /// A number is an optional `-`, 1 to 7 digits, and optionally a point and 1 or 2 digits; its magnitude is at most
+    /// 1,000,000 pixels, truncated toward zero to units of 1/64 pixel, or 10,000 percent.
     ///
-    /// `MarginSyntax` exactly where the text isn't of this form; a number without a unit is no part, zero included.
+    /// `MarginSyntax` exactly when the text isn't of this form; a number without a unit is an error, zero included.
     pub fn parse(text: &[u8]) -> Result<Margins, ThresholdFault>
         ensures ok { IfOk result (λ margins. margins_of text.now ≡ Some margins) }
         ensures none { OnErr result (margins_of text.now ≡ None) }
@@ -150,13 +150,13 @@ impl Margins {
         read_margins(text).ok_or(ThresholdFault::MarginSyntax)
     }
 
-    /// The root rectangle with its edges moved outward by these margins (Intersection Observer, 2.2.1: root
-    /// intersection rectangle), in units of 1/64 pixel, x to the right and y downwards. A percentage is of the
-    /// rectangle's width before it is moved, on all four sides, cut toward zero. A rectangle moved inward may cross
-    /// itself.
+    /// Returns the root rectangle with its edges moved outward by these margins (Intersection Observer, 2.2.1: root
+    /// intersection rectangle), in units of 1/64 pixel, x to the right and y downwards. A percentage is resolved against the
+    /// rectangle's width before it is moved, on all four sides, and truncated toward zero. Negative margins may invert the
+    /// rectangle.
     ///
-    /// The edges of the rectangle lie between -2^48 and 2^48 and its width between -2^42 and 2^42; the edges of the
-    /// answer lie between -2^50 and 2^50, each at most 439,804,651,110,400 units from that of the rectangle.
+    /// The edges of the rectangle lie between -2^48 and 2^48 and its width between -2^42 and 2^42; the edges of the result
+    /// lie between -2^50 and 2^50, each at most 439,804,651,110,400 units from that of the rectangle.
     pub fn dilate(&self, root: Rect) -> Rect
         requires { IsRootRect root }
         ensures moved { result ≡ moved_out self.now root }

@@ -8,15 +8,15 @@ ghost use Rattle.thresholds.specs.Roots.{IsRootWidth, IsMargin};
 
 use px_units::{Percent, Px};
 
-/// A part of a root margin.
+/// One component of a root margin.
 #[derive(Clone, Copy, Debug, PartialEq, Eq)]
 pub enum Part {
     Pixels(Px),
-    /// Of the root rectangle's width, on all four sides.
+    /// A percentage of the root rectangle's width, on all four sides.
     Percentage(Percent),
 }
 
-/// The part that this word is: a number with `px` or `%`.
+/// Parses a component: a number with `px` or `%`.
 #[tactic(auto, unfolding(script_model::specs::MarginText::part_of, script_model::specs::Properties::either_of))]
 pub fn read(word: &[u8]) -> Option<Part>
     ensures value { option_map seen_part result ≡ part_of word.now }
@@ -29,7 +29,7 @@ pub fn read(word: &[u8]) -> Option<Part>
     Some(Part::Percentage(Percent(hundredths as i32)))
 }
 
-/// The length of what stands in front of the first space.
+/// Returns the length of the text before the first space.
 fn front_length(text: &[u8]) -> usize
     ensures count { result ≡ prefix_len (λ byte. not (byte == 32)) text.now }
     ensures bound { result ≤ length text.now }
@@ -37,7 +37,7 @@ fn front_length(text: &[u8]) -> usize
     text.iter().take_while(|byte| **byte != b' ').count()
 }
 
-/// The text in front of the first space, and what stands behind that space.
+/// Splits at the first space: the text before it, and the text after it if there is a space.
 #[tactic(auto, using(crate::proofs::Cuts::whole_text))]
 pub fn cut(text: &[u8]) -> (&[u8], Option<&[u8]>)
     ensures { split_at_spaces text.now ≡ result.0.now ∷ texts_behind (option_copied result.1) }
@@ -50,7 +50,7 @@ pub fn cut(text: &[u8]) -> (&[u8], Option<&[u8]>)
     (front, Some(&rest[1..]))
 }
 
-/// The part that a text begins with, and the text behind the space where there is one.
+/// Parses the first component; also returns the text after the space that follows it, if any.
 #[tactic(auto, using(crate::proofs::Reading::unread))]
 pub fn first_part(text: &[u8]) -> Option<(Part, Option<&[u8]>)>
     ensures value { MatchOption result (parts_read (split_at_spaces text.now) ≡ None) (λ first. parts_read (split_at_spaces text.now) ≡ option_map (λ others. seen_part first.0 ∷ others) (parts_read (texts_behind (option_copied first.1)))) }
@@ -63,7 +63,7 @@ pub fn first_part(text: &[u8]) -> Option<(Part, Option<&[u8]>)>
     }
 }
 
-/// So many hundredths of a percent of a width, cut toward zero.
+/// Returns a percentage, given in hundredths of a percent, of a width, truncated toward zero.
 #[tactic(auto, using(crate::proofs::Widths::product_low, crate::proofs::Widths::product_high, crate::proofs::Widths::part_low, crate::proofs::Widths::part_high))]
 fn part_of_width(hundredths: i64, width: i64) -> i64
     requires low { negsuc 999999 ≤ℤ hundredths }
@@ -76,7 +76,7 @@ fn part_of_width(hundredths: i64, width: i64) -> i64
     width * hundredths / 10_000
 }
 
-/// The part in units of 1/64 pixel: a percentage is of this width, cut toward zero.
+/// Returns a component in units of 1/64 pixel: a percentage is of `width`, truncated toward zero.
 pub fn units(part: Part, width: i64) -> i64
     requires form { IsWithinForm part }
     requires width { IsRootWidth width }

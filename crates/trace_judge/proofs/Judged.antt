@@ -2,7 +2,7 @@
 use Rattle.std.proofs.Common.{◌≡◌, ◌∙◌, refl, sym, ap, ℕ, suc, ◌+◌, ◌-◌, ◌<◌, ◌≤◌, Bool, true, false, cond, not, List, [], ◌∷◌, length, get_or, take, drop, arith}
 use Rattle.std.specs.Prelude.{bytes_eq, nat_eq, ◌==◌}
 use Rattle.std.specs.List.{common_prefix_len, prefix_len, zip, concat}
-use Rattle.std.proofs.lemmas.Bool.{true≢false, false≢true}
+use Rattle.std.proofs.lemmas.Bool.{true≢false, false≢true, false_from_ne_true}
 use Rattle.std.proofs.lemmas.Slice.Eq.{bytes_eq-Decides}
 use Rattle.trace_summary.specs.Lines.{first_line, behind_line}
 use Rattle.trace_summary.proofs.Splits.{behind_shorter}
@@ -13,7 +13,6 @@ use Rattle.trace_judge.specs.declared.judgement.Judgement.TheVariants.{Equal, Di
 use Rattle.trace_judge.specs.Lines.{lines_of}
 use Rattle.trace_judge.specs.Judging.{how_lines_differ, from_there, equal_lines, judged_lines, judgement}
 use Rattle.trace_judge.proofs.Splits.{lines_by_first, lines_make, first_some, first_none}
-use Rattle.trace_judge.proofs.TraceLines.{is_false}
 
 -- ---- bytes in common
 
@@ -97,7 +96,7 @@ other_judged e r some_e some_r other =
     ap (λ lines. judged_lines lines (lines_of r)) (lines_by_first e some_e)
     ∙ ap (λ lines. judged_lines (first_line e ∷ lines_of (behind_line e)) lines) (lines_by_first r some_r)
     ∙ other_line (first_line e) (first_line r) (lines_of (behind_line e)) (lines_of (behind_line r))
-    (is_false (bytes_eq (first_line e) (first_line r)) (λ same. other ((bytes_eq-Decides (first_line e) (first_line r)).0 same)))
+    (false_from_ne_true (bytes_eq (first_line e) (first_line r)) (λ same. other ((bytes_eq-Decides (first_line e) (first_line r)).0 same)))
 
 -- ---- the rests that are left after so many equal lines
 

@@ -1,7 +1,7 @@
 -- Which texts are lines of a trace, as the code reads them.
-use Rattle.std.proofs.Common.{◌≡◌, ◌∙◌, refl, sym, ap, subst, ℕ, ◌<◌, Bool, true, false, List, length, Option, Some, None}
+use Rattle.std.proofs.Common.{◌≡◌, ◌∙◌, refl, sym, ap, subst, ℕ, ◌<◌, true, false, List, length, Option, Some, None}
 use Rattle.std.specs.Prelude.{Result, Ok, Err, is_some, is_ok, IfOk, OnErr}
-use Rattle.std.proofs.lemmas.Bool.{false≢true}
+use Rattle.std.proofs.lemmas.Bool.{false≢true, false_from_ne_true}
 use Rattle.script_model.specs.TraceLines.{TraceLine}
 use Rattle.script_model.specs.TraceText.{line_text}
 use Rattle.trace_text.specs.declared.TraceLine.{TraceLine as LineValue}
@@ -12,10 +12,6 @@ use Rattle.trace_text.specs.Reading.{line_of}
 use Rattle.trace_text.proofs.Whole.{read_sound, read_complete}
 use Rattle.trace_judge.specs.Lines.{is_trace_line}
 use Rattle.trace_judge.proofs.Lengths.{line_short}
-
-pub is_false : (test : Bool) → (test ≡ true → ⊥) → test ≡ false
-is_false true never = absurd (never refl)
-is_false false never = refl
 
 by_read : (text : List ℕ) (read : Option TraceLine) → line_of text ≡ read → is_some read ≡ true → (line : TraceLine) × IsLine line × (line_text line ≡ text)
 by_read text None is some = absurd (false≢true some)
@@ -30,7 +26,7 @@ unfolding is_trace_line
 trace_line_is text line is same = ap is_some (ap line_of (sym same) ∙ read_complete line is)
 
 pub no_trace_line : (text : List ℕ) → ((line : TraceLine) → IsLine line → line_text line ≡ text → ⊥) → is_trace_line text ≡ false
-no_trace_line text none = is_false (is_trace_line text) (λ is. let read = trace_line_read text is in none read.0 read.1 read.2)
+no_trace_line text none = false_from_ne_true (is_trace_line text) (λ is. let read = trace_line_read text is in none read.0 read.1 read.2)
 
 pub trace_line_short : (text : List ℕ) → is_trace_line text ≡ true → length text < 4096
 trace_line_short text is =

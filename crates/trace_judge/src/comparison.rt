@@ -1,4 +1,4 @@
-//! Two traces beside one another.
+//! Comparing two traces.
 
 ghost use Rattle.std.specs.Prelude.{◌≡◌, ◌<◌, ◌≤◌, IsTrue, length, nat_eq};
 ghost use Rattle.std.specs.List.{common_prefix_len};
@@ -16,7 +16,7 @@ fn is_trace_line(line: &[u8]) -> bool
     read_line(line).is_ok()
 }
 
-// How many bytes two lines have in common before the first one that differs.
+// Returns the length of the common prefix of two lines.
 fn common_bytes(expected: &[u8], recorded: &[u8]) -> usize
     ensures { result ≡ common_prefix_len nat_eq expected.now recorded.now }
 {
@@ -27,7 +27,7 @@ fn common_bytes(expected: &[u8], recorded: &[u8]) -> usize
         .count()
 }
 
-// How a recorded line differs from the expected one.
+// Returns how a recorded line differs from the expected one.
 fn how_lines_differ(expected: &[u8], recorded: &[u8]) -> How
     ensures { result ≡ how_lines_differ expected.now recorded.now }
 {
@@ -38,7 +38,7 @@ fn how_lines_differ(expected: &[u8], recorded: &[u8]) -> How
     }
 }
 
-// How two first lines differ. One is empty where its trace has ended.
+// Returns how two lines differ. A line is empty if its trace has ended.
 fn how_first_lines_differ(expected: &[u8], recorded: &[u8]) -> How
     ensures extra { length expected.now ≤ 0 → result ≡ How.Extra }
     ensures missing { 0 < length expected.now → length recorded.now ≤ 0 → result ≡ How.Missing }
@@ -53,7 +53,8 @@ fn how_first_lines_differ(expected: &[u8], recorded: &[u8]) -> How
     }
 }
 
-/// Whether a recorded trace has the lines of the expected one, and where and how it first differs. No memory.
+/// Compares a recorded trace with the expected one: returns whether they are equal, and otherwise where and how they first differ.
+/// Allocates nothing.
 ///
 /// A trace is split after each line feed, and a rest without one is a line too.
 pub fn judge(expected: &[u8], recorded: &[u8]) -> Judgement
@@ -71,7 +72,7 @@ pub fn judge(expected: &[u8], recorded: &[u8]) -> Judgement
                 how: how_first_lines_differ(expected_line, recorded_line),
             };
         }
-        // both have ended: else a line isn't empty
+        // both traces have ended, since a line is never empty
         if expected_line.is_empty() {
             return Judgement::Equal { lines };
         }

@@ -1,4 +1,4 @@
-//! What is said of a recorded trace, and the line that tells it.
+//! The judgement of a recorded trace, and the line that it is written as.
 
 ghost use Rattle.std.specs.Prelude.{◌≡◌, ◌++◌, IfOk, OnOk};
 ghost use Rattle.trace_runs.specs.Writes.{Wrote};
@@ -12,20 +12,20 @@ use word_model::push_decimal;
 /// How a recorded trace differs from the expected one, at the first line where it does.
 #[derive(Clone, Copy, Debug, PartialEq, Eq)]
 pub enum How {
-    /// A line stands there, though the expected trace has ended.
+    /// There is a line, although the expected trace has ended.
     Extra,
-    /// None stands there, though the expected trace goes on.
+    /// The recorded trace has ended, although the expected one continues.
     Missing,
-    /// What stands there is no line of a trace.
+    /// The recorded text there isn't a line of a trace.
     NotALine,
-    /// Another line stands there. The column, from 1, is that of the first byte where the two differ.
+    /// There is another line. The column, from 1, is that of the first byte where the two differ.
     Text(u32),
 }
 
-/// What is said of a recorded trace beside the expected one.
+/// The result of comparing a recorded trace with the expected one.
 #[derive(Clone, Copy, Debug, PartialEq, Eq)]
 pub enum Judgement {
-    /// Both have the same bytes, which make so many lines.
+    /// Both have the same bytes, which make up this number of lines.
     Equal { lines: u64 },
     /// They differ, first at this line, from 1.
     Differs { line: u64, how: How },
@@ -78,10 +78,11 @@ impl Judgement {
         }
     }
 
-    /// Writes the line that tells it: `equal N`, or `differs K` with `extra`, `missing`, `not-a-line` or `text COLUMN`.
+    /// Writes the judgement as a line: `equal N`, or `differs K` with `extra`, `missing`, `not-a-line` or `text COLUMN`.
     ///
-    /// - `WriteFault` only where the sink's count of faults rose in this call; a first part of the line was written.
-    /// - `Memory` for want of memory, and nothing was written then. No other fault comes.
+    /// # Errors
+    /// - `WriteFault` only where the sink's fault count rose in this call; a prefix of the line was written then.
+    /// - `Memory` if an allocation fails; nothing was written then. No other fault.
     pub fn write_to<K: Sink>(&self, alloc: Global, sink: &mut K) -> Result<(), RunFault>
         ensures wrote { Wrote result (K.taken sink.old) (K.taken sink.new) (K.faults sink.old) (K.faults sink.new) (judgement_text self.now) }
         ensures memory { result ≡ Err RunFault.Memory → sink.new ≡ sink.old }

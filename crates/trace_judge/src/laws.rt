@@ -1,4 +1,4 @@
-//! Laws of lines and judgements, each the clause of a function that does nothing.
+//! Laws of lines and judgements, each stated as the contract of a function with an empty body.
 
 ghost use Rattle.std.specs.Prelude.{◌≡◌, ◌≢◌, ◌↔◌, ◌⊎◌, ◌<◌, ◌-◌, ℕ, true, List, [], ◌++◌, length, take};
 ghost use Rattle.std.specs.List.{concat};
@@ -11,7 +11,7 @@ ghost use Rattle.trace_judge.specs.Lines.{lines_of, is_trace_line};
 ghost use Rattle.trace_judge.specs.Judging.{judgement};
 ghost use Rattle.trace_judge.specs.Recordings.{is_divider, script_of, trace_of};
 
-/// A text is its lines one after another.
+/// A text is the concatenation of its lines.
 pub fn lines_make_the_text()
     ensures { (text : List ℕ) → concat (lines_of text) ≡ text }
 {}
@@ -32,7 +32,7 @@ pub fn lines_before_a_difference_are_the_same()
         → (0 < line) × (take (line - 1) (lines_of expected) ≡ take (line - 1) (lines_of recorded)) × (take line (lines_of expected) ≢ take line (lines_of recorded)) }
 {}
 
-/// A source is its script, a line `trace` and its recorded trace, one after another; or it is a script alone.
+/// A source is the concatenation of its script, a line `trace` and its recorded trace; or it is a script alone.
 pub fn a_source_is_its_parts()
     ensures { (source : List ℕ) → ((script_of source ≡ source) × (trace_of source ≡ []))
         ⊎ ((line : List ℕ) × (is_divider line ≡ true) × (script_of source ++ (line ++ trace_of source) ≡ source)) }

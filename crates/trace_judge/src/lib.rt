@@ -1,4 +1,4 @@
-//! A judge of recorded traces: whether a trace is the expected one, and where and how it first differs.
+//! Compares recorded traces with expected ones: whether they are equal, and otherwise where and how they first differ.
 #![tactic(auto)]
 
 mod comparison;

@@ -3,9 +3,9 @@
 ghost use Rattle.std.specs.Prelude.{◌≡◌};
 ghost use Rattle.trace_judge.specs.Recordings.{is_divider};
 
-/// Whether this is the line `trace`, which stands between a script and its recorded trace. No memory.
+/// Whether this is the line `trace`, which separates a script from its recorded trace. Allocates nothing.
 ///
-/// A carriage return may stand before its line feed, and it may end a source without one.
+/// Its line feed may be preceded by a carriage return, or missing at the end of the source.
 pub fn is_divider(line: &[u8]) -> bool
     ensures { result ≡ is_divider line.now }
 {

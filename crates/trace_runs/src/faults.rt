@@ -1,22 +1,22 @@
-//! Why a run is cut off, and how a step that was run goes on.
+//! Why a run ends early, and how it continues after a step.
 
 use text_io::LimitKind;
 use thiserror::Error;
 
-/// Why a run was cut off.
+/// Why a run ended early.
 #[derive(Clone, Copy, Debug, PartialEq, Eq, Error)]
 pub enum RunFault {
-    /// A limit was met by the command that begins on this line, counted from 1. The line that says so isn't written yet.
+    /// The command that begins on this line met a limit. The trace line that says so hasn't been written yet.
     #[error("line {line}: the limit of {} is met", .kind.text())]
     Limit {
-        /// What there is a limit of.
+        /// Which limit it is.
         kind: LimitKind,
-        /// The command's line.
+        /// The command's line, from 1.
         line: u32,
-        /// How much there may be, by the version of the script.
+        /// The value of the limit in the script's version.
         number: u64,
     },
-    /// No memory was left.
+    /// Out of memory.
     #[error("out of memory")]
     Memory,
     /// A write failed.
@@ -24,11 +24,11 @@ pub enum RunFault {
     WriteFault,
 }
 
-/// How a step that was run goes on.
+/// How a run continues after a step.
 #[derive(Clone, Copy, Debug, PartialEq, Eq)]
 pub enum Flow {
     /// The next step follows.
     Next,
-    /// An exception was thrown, and its line was written (WebIDL, invoking callbacks).
+    /// An exception was thrown, and its line was written (Web IDL, invoking callback functions).
     Thrown,
 }

@@ -1,5 +1,5 @@
-//! What a run of the definitions writes to a sink that may fail: lines, throws and limits, and the laws by which steps
-//! written one after another are one run.
+//! What a run of the definitions writes to a sink that may fail: lines, exceptions and limits, and the laws by which
+//! consecutive steps make up one run.
 #![tactic(auto)]
 
 mod faults;

@@ -1,4 +1,4 @@
-//! Lines, written to a sink.
+//! Writing of lines to a sink.
 
 ghost use Rattle.std.specs.Prelude.{[], ◌∷◌};
 ghost use Rattle.script_model.specs.TraceLines.{ThrowLine};
@@ -17,7 +17,8 @@ use trace_text::{TraceLine, value_is_a_line, write_line};
 
 /// Writes a text.
 ///
-/// - `WriteFault` only where the sink's count of faults rose in this call; a first part of the text was written. No other fault comes.
+/// # Errors
+/// `WriteFault`, and no other fault, only where the sink's fault count rose in this call; a prefix of the text was written then.
 pub fn write_text<K: Sink>(sink: &mut K, text: &[u8]) -> Result<(), RunFault>
     ensures { Wrote result (K.taken sink.old) (K.taken sink.new) (K.faults sink.old) (K.faults sink.new) text.now }
 {
@@ -27,10 +28,11 @@ pub fn write_text<K: Sink>(sink: &mut K, text: &[u8]) -> Result<(), RunFault>
     }
 }
 
-/// Writes a line. What is written can be read back.
+/// Writes a line, which can be read back.
 ///
-/// - `WriteFault` only where the sink's count of faults rose in this call; a first part of the line was written.
-/// - `Memory` for want of memory. No other fault comes.
+/// # Errors
+/// `WriteFault` only where the sink's fault count rose in this call, or `Memory` if an allocation fails; a prefix of the line was
+/// written then. No other fault.
 pub fn write_one<K: Sink>(alloc: Global, line: &TraceLine, sink: &mut K) -> Result<(), RunFault>
     requires { HasReach (seen_line line.now) }
     ensures { Told result (K.taken sink.old) (K.taken sink.new) (K.faults sink.old) (K.faults sink.new) (seen_line line.now ∷ []) }
@@ -43,7 +45,10 @@ pub fn write_one<K: Sink>(alloc: Global, line: &TraceLine, sink: &mut K) -> Resu
     write_text(sink, &text)
 }
 
-/// Writes that the command on a line threw, and answers `Thrown`. The faults are those of `write_one`.
+/// Writes that the command on a line threw, and returns `Thrown`.
+///
+/// # Errors
+/// Those of `write_one`.
 pub fn write_throw<K: Sink>(
     alloc: Global,
     line: u32,

@@ -1,4 +1,4 @@
-//! A sink that keeps what it takes.
+//! A sink that collects bytes in memory.
 
 ghost use Rattle.std.specs.Prelude.{◌≡◌, ◌<◌, ◌≤◌, ◌++◌, length, [], Some, IfOk, OnOk, OnErr};
 ghost use Rattle.std.specs.Io.KnownBytes.{WriteAppends};
@@ -9,7 +9,7 @@ use std::alloc::Global;
 use std::marker::Model;
 use text_io::{Failed, Sink};
 
-/// A sink in memory that keeps all that it takes. A contract sees it as these bytes and the count of writes that failed.
+/// A sink that collects all bytes in memory. A contract sees these bytes and the number of failed writes.
 #[derive(Drop)]
 pub struct GatherSink {
     bytes: Vec<u8>,
@@ -25,7 +25,7 @@ impl Model for GatherSink {
 }
 
 impl GatherSink {
-    /// A sink that took nothing so far.
+    /// Creates an empty sink; allocates nothing.
     pub fn new(alloc: Global) -> GatherSink
         ensures { result ≡ record { taken = []; faults = 0 } }
     {
@@ -35,7 +35,7 @@ impl GatherSink {
         }
     }
 
-    /// What it took.
+    /// Returns the bytes taken so far.
     pub fn taken(&self) -> &[u8]
         ensures { result.now ≡ self.now.taken }
     {
@@ -48,8 +48,8 @@ impl Sink for GatherSink {
 
     ghost faults = { λ s. s.faults };
 
-    /// Takes the whole piece. It fails for want of memory alone, and the count of faults, which stops at 2^64 - 1, rises by
-    /// that alone.
+    /// Takes the whole piece. Fails only if an allocation fails; the fault count, which saturates at 2^64 - 1, rises only
+    /// then.
     fn write(&mut self, piece: &[u8]) -> Result<usize, Failed>
         requires { 0 < length piece.now }
         ensures whole { IfOk result (λ n. n ≡ length piece.now) }

@@ -1,4 +1,4 @@
-//! Laws of traces and summaries, each the clause of a function that does nothing.
+//! Laws of traces and summaries, each stated as the contract of a function that does nothing.
 
 ghost use Rattle.std.specs.Prelude.{◌≡◌, ℕ, List};
 ghost use Rattle.script_model.specs.Summary.{summary_text};
@@ -7,7 +7,7 @@ ghost use Rattle.trace_summary.specs.Counts.{IsTrace, summary_of, rows_text};
 
 use trace_text::{line_ends_once, text_has_one_line};
 
-/// No two lists of lines have one text.
+/// No two different lists of lines have the same text.
 pub fn a_text_has_one_trace()
     ensures { (text : List ℕ) (a b : List TraceLine) → IsTrace text a → IsTrace text b → a ≡ b }
 {
@@ -16,7 +16,7 @@ pub fn a_text_has_one_trace()
     text_has_one_line();
 }
 
-/// What is written of the counts of a trace's lines is the summary of the lines.
+/// What is written for the counts of a trace's lines is the summary of these lines.
 #[tactic(auto, using(crate::proofs::Counting::rows_are))]
 pub fn rows_are_the_summary()
     ensures { (lines : List TraceLine) → rows_text (summary_of lines) ≡ summary_text lines }

@@ -1,4 +1,4 @@
-//! Summaries of traces: a trace is gathered in memory, its lines are read back, and those of each kind are counted.
+//! Summaries of traces: a trace is collected in memory, its lines are read back, and the lines of each kind are counted.
 #![tactic(auto)]
 
 mod gather;

@@ -1,10 +1,10 @@
-//! The lines of a text, one after the other.
+//! Splitting of a text into lines.
 
 ghost use Rattle.std.specs.Prelude.{◌≡◌, ◌≤◌, ◌==◌, not, length};
 ghost use Rattle.std.specs.List.{prefix_len};
 ghost use Rattle.trace_summary.specs.Lines.{first_line, behind_line};
 
-// How many bytes stand before the first line feed.
+// Returns the number of bytes before the first line feed.
 fn line_length(text: &[u8]) -> usize
     ensures count { result ≡ prefix_len (λ byte. not (byte == 10)) text.now }
     ensures bound { result ≤ length text.now }
@@ -12,7 +12,8 @@ fn line_length(text: &[u8]) -> usize
     text.iter().take_while(|byte| **byte != b'\n').count()
 }
 
-/// The first line of a text with its line feed, and what stands behind it. No memory.
+/// Splits a text after its first line feed: returns the first line, with its line feed if it has one, and the rest. Allocates
+/// nothing.
 #[tactic(auto, using(crate::proofs::Splits::first_is_taken, crate::proofs::Splits::behind_is_left, crate::proofs::Splits::first_is_whole, crate::proofs::Splits::nothing_behind))]
 pub fn split_line(text: &[u8]) -> (&[u8], &[u8])
     ensures line { result.0.now ≡ first_line text.now }

@@ -1,4 +1,4 @@
-//! How many lines of each kind a trace has.
+//! Counting the lines of a trace.
 
 ghost use Rattle.std.specs.Prelude.{◌≡◌, ◌++◌, length, List, [], ◌∷◌, flat_map, IfOk, OnOk, OnErr};
 ghost use Rattle.script_model.specs.TraceLines.{TraceLine as LineModel};
@@ -73,14 +73,15 @@ fn write_row<K: Sink>(alloc: Global, kind: &str, count: u64, sink: &mut K) -> Re
 }
 
 impl Summary {
-    /// The summary of a trace, by its text.
+    /// Summarizes the trace with this text. Allocates nothing.
     ///
-    /// `NotALine` exactly where the text isn't that of lines one after another, each as `read_line` reads it. No memory.
+    /// # Errors
+    /// `NotALine` exactly where the text isn't a sequence of lines that `read_line` accepts.
     pub fn of(trace: &[u8]) -> Result<Summary, TraceFault>
         ensures ok { IfOk result (λ summary. (lines : List LineModel) × IsTrace trace.now lines × (summary ≡ summary_of lines)) }
         ensures err { OnErr result ((lines : List LineModel) → IsTrace trace.now lines → ⊥) }
     {
-        // the law by which a line ends where it is cut off
+        // the law by which lines end at line feeds and nowhere else
         line_ends_once();
         let mut summary = NO_LINES;
         let mut rest = trace;
@@ -154,10 +155,11 @@ impl Summary {
         ]
     }
 
-    /// Writes a line for each kind, with its count, in the order of the kinds. Each line is handed to the sink by itself.
+    /// Writes a line for each kind, with its count, in the order of the kinds. Each line is passed to the sink separately.
     ///
-    /// - `WriteFault` only where the sink's count of faults rose in this call; a first part of the text was written.
-    /// - `Memory` for want of memory. No other fault comes.
+    /// # Errors
+    /// `WriteFault` only where the sink's fault count rose in this call, or `Memory` if an allocation fails; a prefix of the
+    /// text was written then. No other fault.
     pub fn write_to<K: Sink>(&self, alloc: Global, sink: &mut K) -> Result<(), RunFault>
         ensures { Wrote result (K.taken sink.old) (K.taken sink.new) (K.faults sink.old) (K.faults sink.new) (rows_text self.now) }
     {

@@ -1,8 +1,8 @@
 -- Lengths that are read as the units that they write.
-use Rattle.std.proofs.Common.{◌≡◌, ◌∙◌, refl, sym, ap, subst, ℕ, zero, suc, ◌+◌, ◌*◌, ◌/◌, ◌%◌, ◌^◌, ◌<◌, ◌≤◌, ◌⊎◌, inl, inr, Bool, true, false, cond, not, ◌&&◌, ◌||◌, nat_lt, ltb, List, [], ◌∷◌, ◌++◌, length, drop, Option, Some, None, ℤ, pos, negsuc, arith}
+use Rattle.std.proofs.Common.{◌≡◌, ◌∙◌, refl, sym, ap, subst, ℕ, zero, suc, ◌+◌, ◌*◌, ◌/◌, ◌%◌, ◌^◌, ◌<◌, ◌≤◌, ◌⊎◌, Bool, true, false, cond, not, ◌&&◌, ◌||◌, nat_lt, List, [], ◌∷◌, ◌++◌, length, drop, Option, Some, None, ℤ, pos, negsuc, arith}
 use Rattle.std.specs.Prelude.{take_while, ◌==◌, bytes_eq, option_map}
 use Rattle.std.specs.List.{list_all}
-use Rattle.std.proofs.lemmas.Bool.{and_parts, eqb-true, ne_eqb, ltb-true, ltb-false, lt-ltb, le-ltb}
+use Rattle.std.proofs.lemmas.Bool.{and_parts, eqb-true, ne_eqb, ltb-true, lt-ltb, le-ltb}
 use Rattle.std.proofs.lemmas.List.Folds.{list_all-append}
 use Rattle.std.proofs.lemmas.List.Sums.{take_while-cons}
 use Rattle.std.proofs.lemmas.Slice.Eq.{bytes_eq-Decides}
@@ -12,6 +12,7 @@ use Rattle.word_model.specs.Numbers.{decimal, at_most, leading_digits, behind_di
 use Rattle.word_model.proofs.Values.{not_above}
 use Rattle.px_units.specs.Texts.{sign_text, rest_text, pixel_text}
 use Rattle.px_units.specs.Rects.{InReach}
+use Rattle.px_units.proofs.Decimals.{passes_below, passes, either}
 use Rattle.word_model.proofs.RoundTrip.{decimal_digits, decimal_length}
 use Rattle.trace_text.specs.Fields.{is_field_byte}
 use Rattle.trace_text.specs.Reading.{◌>>=◌, number_of, are_decimals, sixty_fourths, decimals_of, rest_of, magnitude_of, negative, pixels_of}
@@ -20,20 +21,6 @@ use Rattle.word_model.proofs.Spelled.{digits_first}
 use Rattle.trace_text.proofs.Numerals.{number_exact, digits_field, at_most_some, leading_first, behind_first}
 
 -- ---- each of the 64 rests of a pixel, computed
-
-unfoldable passes_below : (ℕ → Bool) → ℕ → Bool
-passes_below test zero = true
-passes_below test (suc n) = test n && passes_below test n
-
-lt_or : (k n : ℕ) → k < suc n → (k < n) ⊎ (k ≡ n)
-lt_or k n h = elim (ltb k n) as (λ v. ltb k n ≡ v → (k < n) ⊎ (k ≡ n)) [ true ↦ λ e. inl (ltb-true k n e) | false ↦ λ e. inr (let l : n ≤ k = ltb-false k n e in omega arith) ] refl
-
-passes : (test : ℕ → Bool) (n k : ℕ) → passes_below test n ≡ true → k < n → test k ≡ true
-unfolding passes_below
-passes test zero k all h = absurd (omega arith)
-passes test (suc n) k all h =
-    let both : (test n ≡ true) × (passes_below test n ≡ true) = and_parts (test n) (passes_below test n) all in
-    elim (lt_or k n h) [ inl less ↦ passes test n k both.1 less | inr same ↦ subst (λ (m : ℕ). test m ≡ true) (sym same) both.0 ]
 
 -- the decimals behind the point
 abbrev decimals : ℕ → List ℕ
@@ -56,10 +43,6 @@ all_clean = refl
 rest_clean : (rest : ℕ) → rest < 64 → list_all is_field_byte (rest_text rest) ≡ true
 unfolding is_clean
 rest_clean rest h = passes is_clean 64 rest all_clean h
-
-either : (a b : Bool) → a ≡ false → (a || b) ≡ true → b ≡ true
-either false b n h = h
-either true b n h = absurd (let no : ⊥ = cc in no)
 
 read_again : (rest : ℕ) → 0 < rest → rest < 64 → (are_decimals (decimals rest) rest ≡ true) × (rest_text rest ≡ 46 ∷ decimals rest) × (sixty_fourths (decimals rest) ≡ rest)
 unfolding reads_back

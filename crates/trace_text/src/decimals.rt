@@ -1,4 +1,4 @@
-//! Numbers in decimal, each in the one way that it is written.
+//! Parsing decimal numbers in their canonical form.
 
 ghost use Rattle.std.specs.Prelude.{◌≡◌, ◌-◌, ◌^◌, ◌<◌, ◌≤◌, IfSome, MatchOption};
 ghost use Rattle.word_model.specs.Numbers.{digits_value};
@@ -6,10 +6,10 @@ ghost use Rattle.trace_text.specs.Reading.{number_of, ratio_of, whole_of};
 
 use word_model::{is_whole, split_digits};
 
-/// The greatest whole number with a sign.
+/// The largest absolute value of a signed whole number.
 const MOST: u128 = 1 << 50;
 
-/// The number that these digits write, none where it is above the largest of 128 bits.
+/// Returns the value of these decimal digits, or `None` if it exceeds 128 bits.
 fn value_of(digits: &[u8]) -> Option<u128>
     ensures { MatchOption result (2 ^ 128 - 1 < digits_value digits.now) (λ value. value ≡ digits_value digits.now) }
 {
@@ -24,7 +24,7 @@ fn value_of(digits: &[u8]) -> Option<u128>
     Some(value)
 }
 
-/// The number, at most this one, whose decimal text the field is.
+/// Parses a number of at most `most`, without leading zeros.
 #[tactic(auto, using(word_model::proofs::Values::above, word_model::proofs::Values::not_above), unfolding(crate::specs::Reading::number_of))]
 pub fn number_of(field: &[u8], most: u128) -> Option<u128>
     ensures value { result ≡ number_of most field.now }
@@ -37,7 +37,7 @@ pub fn number_of(field: &[u8], most: u128) -> Option<u128>
     if value > most { None } else { Some(value) }
 }
 
-/// The two numbers that the field has with a `/` between them.
+/// Parses two numbers with a `/` between them.
 #[tactic(auto, unfolding(crate::specs::Reading::ratio_of, crate::specs::Reading::over))]
 pub fn ratio_of(field: &[u8]) -> Option<(u128, u128)>
     ensures { result ≡ ratio_of field.now }
@@ -50,7 +50,7 @@ pub fn ratio_of(field: &[u8]) -> Option<(u128, u128)>
     }
 }
 
-/// The whole number from -2^50 to 2^50 whose text the field is.
+/// Parses a whole number from -2^50 to 2^50, without leading zeros; `-0` isn't one.
 #[tactic(auto, unfolding(crate::specs::Reading::whole_of, crate::specs::Reading::negative))]
 pub fn whole_of(field: &[u8]) -> Option<i64>
     ensures { result ≡ whole_of field.now }

@@ -1,4 +1,5 @@
-//! The fields of a line one after the other, each behind a space.
+//! Reading the fields of a line, each after a space. A function whose name ends in `_at` returns the value at the start of the text, and
+//! the rest of the text.
 
 ghost use Rattle.std.specs.Prelude.{◌≡◌, ◌-◌, ◌^◌, ◌≤◌, length, IfSome};
 ghost use Rattle.std.specs.List.{prefix_len};
@@ -17,10 +18,10 @@ use text_io::{EventKind, LimitKind, Name, ThrowKind};
 /// The message of an `error` event (Resize Observer, 3.4.6).
 pub const MESSAGE: &[u8] = b"ResizeObserver loop completed with undelivered notifications.";
 
-/// The greatest length, in units.
+/// The largest absolute value of a length, in units.
 const REACH: i64 = 1 << 50;
 
-/// The bytes up to the first space or line feed, and what stands there.
+/// Splits the text before the first space or line feed.
 #[tactic(auto, unfolding(crate::specs::Reading::field_of, crate::specs::Reading::behind_field))]
 pub fn split_field(text: &[u8]) -> (&[u8], &[u8])
     ensures field { result.0.now ≡ field_of text.now }
@@ -36,7 +37,7 @@ fn field_length(text: &[u8]) -> usize
     text.iter().take_while(|byte| **byte > b' ').count()
 }
 
-/// The field behind a space.
+/// Reads a space and a field.
 #[tactic(auto, unfolding(crate::specs::Reading::field_at))]
 fn field_at(text: &[u8]) -> Option<(&[u8], &[u8])>
     ensures { read_of (λ field. field.now) result ≡ field_at text.now }
@@ -47,7 +48,7 @@ fn field_at(text: &[u8]) -> Option<(&[u8], &[u8])>
     }
 }
 
-/// What stands behind this word.
+/// Reads a space and this word as a field, and returns the rest.
 #[tactic(auto, unfolding(crate::specs::Reading::behind_word))]
 fn behind_word<'a>(word: &[u8], text: &'a [u8]) -> Option<&'a [u8]>
     ensures { behind_of result ≡ behind_word word.now text.now }
@@ -56,7 +57,7 @@ fn behind_word<'a>(word: &[u8], text: &'a [u8]) -> Option<&'a [u8]>
     if field == word { Some(rest) } else { None }
 }
 
-/// What stands behind this text.
+/// Strips this prefix, and returns the rest.
 #[tactic(auto, unfolding(crate::specs::Reading::behind_text))]
 fn behind_text<'a>(front: &[u8], text: &'a [u8]) -> Option<&'a [u8]>
     ensures { behind_of result ≡ behind_text front.now text.now }
@@ -64,7 +65,7 @@ fn behind_text<'a>(front: &[u8], text: &'a [u8]) -> Option<&'a [u8]>
     text.strip_prefix(front)
 }
 
-/// What stands behind a space and this text.
+/// Strips a space and this prefix, and returns the rest.
 #[tactic(auto, unfolding(crate::specs::Reading::behind_space))]
 fn behind_space<'a>(front: &[u8], text: &'a [u8]) -> Option<&'a [u8]>
     ensures { behind_of result ≡ behind_space front.now text.now }
@@ -75,7 +76,7 @@ fn behind_space<'a>(front: &[u8], text: &'a [u8]) -> Option<&'a [u8]>
     }
 }
 
-/// What stands behind the message of an `error` event.
+/// Strips a space and the message of an `error` event, and returns the rest.
 pub fn behind_message(text: &[u8]) -> Option<&[u8]>
     ensures { behind_of result ≡ behind_space loop_error text.now }
 {
@@ -114,7 +115,7 @@ fn window_of(field: &[u8]) -> Option<Name>
     }
 }
 
-/// The document of a window, behind an `@`.
+/// Reads a window: an `@` and the name of its document.
 #[tactic(auto, unfolding(crate::specs::Reading::window_at))]
 pub fn window_at(text: &[u8]) -> Option<(Name, &[u8])>
     ensures { read_of same result ≡ window_at text.now }
@@ -170,7 +171,7 @@ fn bool_of(field: &[u8]) -> Option<bool>
     None
 }
 
-/// `true` or `false`
+/// Reads `true` or `false`.
 #[tactic(auto, unfolding(crate::specs::Reading::bool_at))]
 pub fn bool_at(text: &[u8]) -> Option<(bool, &[u8])>
     ensures { read_of same result ≡ bool_at text.now }
@@ -193,7 +194,7 @@ fn meets_of(field: &[u8]) -> Option<bool>
     None
 }
 
-/// `yes` or `no`
+/// Reads `yes` or `no`.
 #[tactic(auto, unfolding(crate::specs::Reading::meets_at))]
 pub fn meets_at(text: &[u8]) -> Option<(bool, &[u8])>
     ensures { read_of same result ≡ meets_at text.now }
@@ -229,7 +230,7 @@ pub fn limit_at(text: &[u8]) -> Option<(LimitKind, &[u8])>
     Some((kind, rest))
 }
 
-/// A length in units.
+/// Reads a length into units.
 #[tactic(auto, unfolding(crate::specs::Reading::pixels_at))]
 fn pixels_at(text: &[u8]) -> Option<(i64, &[u8])>
     ensures value { read_of same result ≡ pixels_at text.now }
@@ -262,7 +263,7 @@ fn size_at(text: &[u8]) -> Option<(Size, &[u8])>
     Some((Size { width, height }, rest))
 }
 
-/// A whole number with its sign.
+/// Reads a whole number, which may be negative.
 #[tactic(auto, unfolding(crate::specs::Reading::whole_at))]
 fn whole_at(text: &[u8]) -> Option<(i64, &[u8])>
     ensures { read_of same result ≡ whole_at text.now }
@@ -272,7 +273,7 @@ fn whole_at(text: &[u8]) -> Option<(i64, &[u8])>
     Some((number, rest))
 }
 
-/// A size in device pixels, where a field follows; none where nothing does.
+/// Reads an optional size in device pixels: `None` if no field follows.
 #[tactic(auto, unfolding(crate::specs::Reading::device_at))]
 pub fn device_at(text: &[u8]) -> Option<(Option<Size>, &[u8])>
     ensures { read_of same result ≡ device_at text.now }
@@ -288,7 +289,7 @@ pub fn device_at(text: &[u8]) -> Option<(Option<Size>, &[u8])>
     }
 }
 
-/// The rectangle with this corner and size, none where an edge is out of range.
+/// Returns the rectangle with this corner and size, or `None` if an edge is out of range.
 #[tactic(auto, unfolding(crate::specs::Reading::rect_of))]
 fn rect_of(corner: Point, size: Size) -> Option<Rect>
     requires left { InReach corner.left }
@@ -307,7 +308,7 @@ fn rect_of(corner: Point, size: Size) -> Option<Rect>
     })
 }
 
-/// Where a length ends that starts there, none where that is out of range.
+/// Returns the end of a length that starts at `start`, or `None` if it is out of range.
 #[tactic(auto, unfolding(crate::specs::Reading::edge_of))]
 fn edge_of(start: i64, length: i64) -> Option<i64>
     requires start { InReach start }
@@ -322,7 +323,7 @@ fn edge_of(start: i64, length: i64) -> Option<i64>
     }
 }
 
-/// A rectangle by its corner and its size.
+/// Reads a rectangle, given by its corner and its size.
 #[tactic(auto, unfolding(crate::specs::Reading::rect_at))]
 pub fn rect_at(text: &[u8]) -> Option<(Rect, &[u8])>
     ensures { read_of same result ≡ rect_at text.now }
@@ -333,7 +334,7 @@ pub fn rect_at(text: &[u8]) -> Option<(Rect, &[u8])>
     Some((rect, rest))
 }
 
-/// A rectangle behind this word.
+/// Reads this word and a rectangle.
 pub fn rect_behind<'a>(word: &[u8], text: &'a [u8]) -> Option<(Rect, &'a [u8])>
     ensures { read_of same result ≡ behind word.now rect_at text.now }
 {
@@ -341,7 +342,7 @@ pub fn rect_behind<'a>(word: &[u8], text: &'a [u8]) -> Option<(Rect, &'a [u8])>
     rect_at(rest)
 }
 
-/// A size behind this word.
+/// Reads this word and a size.
 pub fn size_behind<'a>(word: &[u8], text: &'a [u8]) -> Option<(Size, &'a [u8])>
     ensures { read_of same result ≡ behind word.now size_at text.now }
 {

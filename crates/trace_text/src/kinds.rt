@@ -1,4 +1,4 @@
-//! The kinds of lines by their words.
+//! The kinds of lines, and their words.
 
 ghost use Rattle.std.specs.Prelude.{◌≡◌};
 ghost use Rattle.script_model.specs.TraceText.{kind_text};
@@ -7,7 +7,7 @@ ghost use Rattle.trace_text.specs.Kinds.{kind_word, kind_of};
 
 use crate::TraceLine;
 
-/// The kind of a line, its first field.
+/// The kind of a line, which is its first field.
 #[derive(Clone, Copy, Debug, PartialEq, Eq)]
 pub enum LineKind {
     Tick,
@@ -27,7 +27,7 @@ pub enum LineKind {
 }
 
 impl LineKind {
-    /// In the order of a summary.
+    /// All kinds, in the order of a summary.
     pub const ALL: [LineKind; 14] = [
         LineKind::Tick,
         LineKind::Timer,
@@ -45,7 +45,7 @@ impl LineKind {
         LineKind::Syntax,
     ];
 
-    /// The word for it.
+    /// Returns the word for it.
     pub fn text(&self) -> &'static str
         ensures { result.now ≡ kind_word self.now }
     {
@@ -67,7 +67,7 @@ impl LineKind {
         }
     }
 
-    /// The kind of a line.
+    /// Returns the kind of a line.
     pub fn of(line: &TraceLine) -> LineKind
         ensures { kind_word result ≡ kind_text (seen_line line.now) }
     {
@@ -89,7 +89,7 @@ impl LineKind {
         }
     }
 
-    /// The kind that this word names.
+    /// Returns the kind that this word names, or `None` if there is none.
     #[tactic(auto, unfolding(text_io::specs::Kinds::named))]
     pub fn named(word: &[u8]) -> Option<LineKind>
         ensures { result ≡ kind_of word.now }

@@ -1,4 +1,4 @@
-//! Laws of lines and their texts, each the clause of a function that changes nothing.
+//! Laws of lines and their texts, each stated as the contract of a function that does nothing.
 
 ghost use Rattle.std.specs.Prelude.{◌≡◌, ◌≢◌, ℕ, List, [], ◌∷◌, ◌++◌};
 ghost use Rattle.std.specs.List.{All};
@@ -10,18 +10,18 @@ ghost use Rattle.trace_text.specs.Ranges.{HasReach, IsName, EventFits, IsLine};
 use crate::{EventLine, TraceLine};
 use text_io::Name;
 
-/// No two lines have one text.
+/// No two different lines have the same text.
 pub fn text_has_one_line()
     ensures { (a b : LineModel) → IsLine a → IsLine b → line_text a ≡ line_text b → a ≡ b }
 {}
 
-/// A line's text ends with a line feed and has no other.
+/// A line's text ends in a line feed, and contains no other.
 #[tactic(auto, using(crate::proofs::Whole::feed_once))]
 pub fn line_ends_once()
     ensures { (line : LineModel) → IsLine line → (front : List ℕ) × (line_text line ≡ front ++ (10 ∷ [])) × All (λ byte. byte ≢ 10) front }
 {}
 
-/// Each value whose lengths are within their bound is such a line: its names are names, and its numbers fit their types.
+/// Each value whose lengths are within their bound is such a line: its names are well formed, and its numbers fit their types.
 pub fn value_is_a_line(line: &TraceLine)
     requires { HasReach (seen_line line.now) }
     ensures { IsLine (seen_line line.now) }

@@ -1,4 +1,4 @@
-//! Lengths from their exact texts in CSS pixels.
+//! Parsing lengths from their exact texts in CSS pixels.
 
 ghost use Rattle.std.specs.Prelude.{◌≡◌, ◌-◌, ◌<◌, ◌≤◌, ◌^◌, IfSome};
 ghost use Rattle.px_units.specs.Rects.{InReach};
@@ -7,12 +7,12 @@ ghost use Rattle.trace_text.specs.Reading.{are_decimals, sixty_fourths, decimals
 use crate::decimals::number_of;
 use word_model::split_digits;
 
-/// The greatest length, 2^50 units, and the whole pixels that it has.
+/// The largest absolute value of a length, 2^50 units, and below it the same in whole pixels.
 const MOST: u64 = 1 << 50;
 
 const MOST_PIXELS: u128 = 1 << 44;
 
-/// Whether these are the decimals of so many 64ths, by long division.
+/// Whether these are the decimals of `rest` 64ths, by long division.
 #[tactic(auto, using(crate::proofs::Divisions::next_digit, crate::proofs::Divisions::another_digit, crate::proofs::Divisions::no_digit, crate::proofs::Divisions::digits_end))]
 fn are_decimals(digits: &[u8], rest: u64) -> bool
     requires { rest < 64 }
@@ -28,7 +28,8 @@ fn are_decimals(digits: &[u8], rest: u64) -> bool
     left == 0
 }
 
-/// The 64ths that begin with these decimals: as these lie more than a hundredth apart, two decimals tell.
+/// Returns the only number of 64ths whose decimals can begin with these. Since 64ths are more than a hundredth apart, two
+/// decimals determine it.
 #[tactic(auto, unfolding(crate::specs::Reading::sixty_fourths))]
 fn sixty_fourths(digits: &[u8]) -> u64
     ensures { result ≡ sixty_fourths digits.now }
@@ -47,7 +48,7 @@ fn digit(byte: u8) -> u64
     u64::from(byte.saturating_sub(b'0'))
 }
 
-/// The 64ths that have these decimals behind the point.
+/// Returns the number of 64ths with exactly these decimals after the point.
 #[tactic(auto, unfolding(crate::specs::Reading::decimals_of))]
 fn decimals_of(digits: &[u8]) -> Option<u64>
     ensures value { result ≡ decimals_of digits.now }
@@ -64,7 +65,7 @@ fn decimals_of(digits: &[u8]) -> Option<u64>
     }
 }
 
-/// The 64ths that stand behind the whole pixels.
+/// Parses what follows the whole pixels, and returns the number of 64ths.
 #[tactic(auto, unfolding(crate::specs::Reading::rest_of))]
 fn rest_of(text: &[u8]) -> Option<u64>
     ensures value { result ≡ rest_of text.now }
@@ -77,7 +78,7 @@ fn rest_of(text: &[u8]) -> Option<u64>
     }
 }
 
-/// The length without a sign, in units.
+/// Parses an unsigned length into units.
 #[tactic(auto, using(word_model::proofs::Values::above, word_model::proofs::Values::not_above), unfolding(crate::specs::Reading::magnitude_of))]
 fn magnitude_of(text: &[u8]) -> Option<u64>
     ensures value { result ≡ magnitude_of text.now }
@@ -90,7 +91,7 @@ fn magnitude_of(text: &[u8]) -> Option<u64>
     if units > MOST { None } else { Some(units) }
 }
 
-/// The length in units of 1/64 CSS pixel, from -2^50 to 2^50, whose text the field is.
+/// Parses the exact text of a length into units of 1/64 CSS pixel, from -2^50 to 2^50.
 #[tactic(auto, unfolding(crate::specs::Reading::pixels_of, crate::specs::Reading::negative))]
 pub fn pixels_of(field: &[u8]) -> Option<i64>
     ensures value { result ≡ pixels_of field.now }

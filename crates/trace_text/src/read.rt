@@ -1,4 +1,4 @@
-//! Lines from their texts.
+//! Reading lines from their texts.
 
 ghost use Rattle.std.specs.Prelude.{◌≡◌, IfOk, OnErr, option_map};
 ghost use Rattle.script_model.specs.TraceLines.{TraceLine as LineModel};
@@ -17,9 +17,10 @@ use crate::kinds::LineKind;
 use crate::{EventLine, TraceFault, TraceLine};
 use text_io::EventKind;
 
-/// The line with this text, its line feed included. Each length, edge, width and height of it lies between -2^50 and
-/// 2^50 units.
+/// Returns the line with this text, its line feed included. Each length, edge, width and height of it is within ±2^50
+/// units.
 ///
+/// # Errors
 /// `NotALine` exactly where no such line has this text.
 pub fn read_line(text: &[u8]) -> Result<TraceLine, TraceFault>
     ensures ok { IfOk result (λ line. line_text (seen_line line) ≡ text.now) }
@@ -44,7 +45,7 @@ fn line_of(text: &[u8]) -> Option<TraceLine>
     ended(line, rest)
 }
 
-/// The line, where a line feed and nothing else stands behind its fields.
+/// Returns the line, if exactly a line feed follows its fields.
 fn ended(line: TraceLine, rest: &[u8]) -> Option<TraceLine>
     ensures { option_map seen_line result ≡ ended (seen_line line, rest.now) }
 {
@@ -55,7 +56,7 @@ fn ended(line: TraceLine, rest: &[u8]) -> Option<TraceLine>
     }
 }
 
-/// The line of this kind whose fields come next.
+/// Reads the fields of a line of this kind.
 fn line_by(kind: LineKind, text: &[u8]) -> Option<(TraceLine, &[u8])>
     ensures { read_of seen_line result ≡ line_by kind text.now }
 {
@@ -125,7 +126,7 @@ fn fired_at(text: &[u8]) -> Option<(TraceLine, &[u8])>
     Some((TraceLine::Event(event), rest))
 }
 
-/// An event by its name and what stands behind it.
+/// Reads the type of an event and its fields.
 #[tactic(auto, unfolding(crate::specs::Reading::event_at))]
 fn event_at(text: &[u8]) -> Option<(EventLine, &[u8])>
     ensures { read_of seen_event result ≡ event_at text.now }

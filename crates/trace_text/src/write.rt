@@ -1,4 +1,4 @@
-//! The texts of lines.
+//! Writing lines as text.
 
 ghost use Rattle.std.specs.Prelude.{◌≡◌, [], ◌∷◌, ◌++◌, OnOk, OnErr, Some, IfSome, codes};
 ghost use Rattle.word_model.specs.Numbers.{decimal};
@@ -18,8 +18,8 @@ use std::alloc::{AllocError, Global};
 use text_io::{LimitKind, Name, ThrowKind};
 use word_model::push_decimal;
 
-/// Appends the line's text, which ends with a line feed. Each length, edge, width and height of the line lies between
-/// -2^50 and 2^50 units. Where memory is refused, nothing is appended.
+/// Appends the line's text, which ends with a line feed. Each length, edge, width and height of the line must be within
+/// ±2^50 units. If an allocation fails, nothing is appended.
 #[tactic(auto, using(crate::proofs::Joined::line_text_is))]
 pub fn write_line(alloc: Global, line: &TraceLine, into: &mut Vec<u8>) -> Result<(), AllocError>
     requires { HasReach (seen_line line.now) }
@@ -33,7 +33,7 @@ pub fn write_line(alloc: Global, line: &TraceLine, into: &mut Vec<u8>) -> Result
     into.extend_from_slice(text.as_slice())
 }
 
-/// Appends a field behind a space.
+/// Appends a space and a field.
 pub fn push_field(out: &mut Vec<u8>, field: &[u8]) -> Result<(), AllocError>
     ensures { OnOk result (out.new.items ≡ with_fields out.old.items (field.now ∷ [])) }
 {
@@ -48,7 +48,7 @@ fn push_names(out: &mut Vec<u8>, first: &Name, second: &Name) -> Result<(), Allo
     push_field(out, second.bytes())
 }
 
-/// The window of a document.
+/// Appends the window of a document.
 fn push_window(out: &mut Vec<u8>, document: &Name) -> Result<(), AllocError>
     ensures { OnOk result (out.new.items ≡ with_fields out.old.items (window_text document.now ∷ [])) }
 {
@@ -56,7 +56,7 @@ fn push_window(out: &mut Vec<u8>, document: &Name) -> Result<(), AllocError>
     out.extend_from_slice(document.bytes())
 }
 
-/// Appends a number in decimal behind a space.
+/// Appends a space and a number in decimal.
 pub fn push_number(out: &mut Vec<u8>, number: u128) -> Result<(), AllocError>
     ensures { OnOk result (out.new.items ≡ with_fields out.old.items (decimal number ∷ [])) }
 {
@@ -64,7 +64,7 @@ pub fn push_number(out: &mut Vec<u8>, number: u128) -> Result<(), AllocError>
     push_decimal(out, number)
 }
 
-/// A length in units.
+/// Appends a length given in units.
 fn push_length(out: &mut Vec<u8>, units: i64) -> Result<(), AllocError>
     ensures { OnOk result (out.new.items ≡ with_fields out.old.items (pixel_text units ∷ [])) }
 {
@@ -72,7 +72,7 @@ fn push_length(out: &mut Vec<u8>, units: i64) -> Result<(), AllocError>
     push_px(out, Px(units))
 }
 
-/// The minus sign of a negative number.
+/// Appends the minus sign of a negative number.
 #[tactic(auto, unfolding(px_units::specs::Texts::sign_text))]
 fn push_sign(out: &mut Vec<u8>, number: i64) -> Result<(), AllocError>
     ensures { OnOk result (out.new.items ≡ out.old.items ++ sign_text number) }
@@ -83,7 +83,7 @@ fn push_sign(out: &mut Vec<u8>, number: i64) -> Result<(), AllocError>
     Ok(())
 }
 
-/// A whole number, with a minus sign if it is negative.
+/// Appends a whole number, with a minus sign if it is negative.
 #[tactic(auto, using(crate::proofs::Joined::whole_pushed))]
 fn push_whole(out: &mut Vec<u8>, number: i64) -> Result<(), AllocError>
     ensures { OnOk result (out.new.items ≡ with_fields out.old.items (whole_text number ∷ [])) }
@@ -93,7 +93,7 @@ fn push_whole(out: &mut Vec<u8>, number: i64) -> Result<(), AllocError>
     push_decimal(out, u128::from(number.unsigned_abs()))
 }
 
-/// An area seen and the whole of it, in square units.
+/// Appends the areas of an intersection and of its target, in square units.
 #[tactic(auto, unfolding(script_model::specs::TraceText::ratio_text))]
 fn push_ratio(out: &mut Vec<u8>, part: u128, whole: u128) -> Result<(), AllocError>
     ensures { OnOk result (out.new.items ≡ with_fields out.old.items (ratio_text part whole ∷ [])) }
@@ -103,7 +103,7 @@ fn push_ratio(out: &mut Vec<u8>, part: u128, whole: u128) -> Result<(), AllocErr
     push_decimal(out, whole)
 }
 
-/// Appends a rectangle's left and top edge, its width and its height, each behind a space.
+/// Appends a rectangle's left and top edge, its width and its height, each after a space.
 pub fn push_rect(out: &mut Vec<u8>, rect: &Rect) -> Result<(), AllocError>
     requires { RectReaches rect.now }
     ensures { OnOk result (out.new.items ≡ with_fields out.old.items (rect_fields rect.now)) }
@@ -130,7 +130,7 @@ fn push_point(out: &mut Vec<u8>, point: &Point) -> Result<(), AllocError>
     push_length(out, point.top)
 }
 
-/// A rectangle behind a word.
+/// Appends a word and a rectangle.
 fn push_rect_behind(out: &mut Vec<u8>, word: &[u8], rect: &Rect) -> Result<(), AllocError>
     requires { RectReaches rect.now }
     ensures { OnOk result (out.new.items ≡ with_fields out.old.items (word.now ∷ rect_fields rect.now)) }
@@ -139,7 +139,7 @@ fn push_rect_behind(out: &mut Vec<u8>, word: &[u8], rect: &Rect) -> Result<(), A
     push_rect(out, rect)
 }
 
-/// The name of an event and the fields behind it.
+/// Appends the type of an event and its fields.
 #[tactic(auto, unfolding(script_model::specs::TraceText::event_fields))]
 fn push_event(out: &mut Vec<u8>, event: &EventLine) -> Result<(), AllocError>
     ensures { OnOk result (out.new.items ≡ with_fields out.old.items (event_fields (seen_event event.now))) }
@@ -186,7 +186,7 @@ fn push_meets(out: &mut Vec<u8>, meets: bool) -> Result<(), AllocError>
     }
 }
 
-/// A name and a count or a depth.
+/// Appends a name and a count or a depth.
 fn push_counted(out: &mut Vec<u8>, name: &Name, count: u64) -> Result<(), AllocError>
     ensures { OnOk result (out.new.items ≡ with_fields out.old.items (name.now ∷ decimal count ∷ [])) }
 {
@@ -215,7 +215,7 @@ fn push_limit(out: &mut Vec<u8>, kind: LimitKind, number: u32, most: u64) -> Res
     push_numbers(out, u64::from(number), most)
 }
 
-/// A size in device pixels.
+/// Appends a size in device pixels.
 fn push_pixels(out: &mut Vec<u8>, size: &Size) -> Result<(), AllocError>
     requires { SizeReaches size.now }
     ensures { OnOk result (out.new.items ≡ with_fields out.old.items (device_fields (Some size.now))) }
@@ -225,7 +225,7 @@ fn push_pixels(out: &mut Vec<u8>, size: &Size) -> Result<(), AllocError>
     push_whole(out, size.height)
 }
 
-/// A size in device pixels, if it is told.
+/// Appends a size in device pixels, if there is one.
 #[tactic(auto, unfolding(script_model::specs::TraceText::device_fields))]
 fn push_device(out: &mut Vec<u8>, device: &Option<Size>) -> Result<(), AllocError>
     requires { IfSome device.now SizeReaches }
@@ -237,7 +237,7 @@ fn push_device(out: &mut Vec<u8>, device: &Option<Size>) -> Result<(), AllocErro
     }
 }
 
-/// A content rectangle, and the border box and the device pixels behind it.
+/// Appends a content rectangle, the size of the border box and, if there is one, the size in device pixels.
 fn push_boxes(
     out: &mut Vec<u8>,
     rect: &Rect,
@@ -287,7 +287,7 @@ fn push_read(
     push_point(out, scroll)
 }
 
-/// Who sees what at this time, whether they meet, and the areas.
+/// Appends the observer, the target, the time, whether the target is intersecting, and the areas.
 fn push_seen(
     out: &mut Vec<u8>,
     observer: &Name,
@@ -305,7 +305,7 @@ fn push_seen(
     push_ratio(out, part, whole)
 }
 
-/// The root, the target and their common part.
+/// Appends the rectangles of the root, the target and the intersection.
 fn push_rects(out: &mut Vec<u8>, root: &Rect, bounds: &Rect, cut: &Rect) -> Result<(), AllocError>
     requires root { RectReaches root.now }
     requires bounds { RectReaches bounds.now }
@@ -317,7 +317,7 @@ fn push_rects(out: &mut Vec<u8>, root: &Rect, bounds: &Rect, cut: &Rect) -> Resu
     push_rect_behind(out, b"cut", cut)
 }
 
-/// The fields behind the kind.
+/// Appends the fields after the kind.
 #[tactic(auto, unfolding(script_model::specs::TraceText::fields_of))]
 fn push_fields(out: &mut Vec<u8>, line: &TraceLine) -> Result<(), AllocError>
     requires { HasReach (seen_line line.now) }

@@ -1,4 +1,4 @@
-//! The forms of a script's words: names, and numbers written in decimal.
+//! The lexical forms of a script's words: names, and numbers written in decimal.
 #![tactic(auto)]
 
 mod laws;

@@ -16,7 +16,7 @@ pub fn is_digit(byte: u8) -> bool
     matches!(byte, b'0'..=b'9')
 }
 
-/// Whether the byte may stand in a name behind its first letter: a letter, a digit, `_` or `-`.
+/// Whether the byte may follow the first letter of a name: a letter, a digit, `_` or `-`.
 pub fn is_name_byte(byte: u8) -> bool
     ensures { result ≡ is_name_byte byte }
 {

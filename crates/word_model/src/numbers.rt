@@ -6,7 +6,7 @@ ghost use Rattle.word_model.specs.Numbers.{at_most, digits_value, leading_digits
 use crate::names::is_digit;
 use crate::parts::{begins_with, split, split_sign};
 
-/// The number that these digits write, none where it is above the bound.
+/// Returns the value of these decimal digits, or `None` if it is above the bound.
 fn bounded_value(digits: &[u8], bound: u64) -> Option<u64>
     requires { bound < 2 ^ 59 }
     ensures { result ≡ at_most bound (digits_value digits.now) }
@@ -21,7 +21,7 @@ fn bounded_value(digits: &[u8], bound: u64) -> Option<u64>
     Some(value)
 }
 
-/// The number that at most nine digits write.
+/// Returns the value of at most nine decimal digits.
 #[tactic(auto, using(crate::proofs::Values::nine_digits, crate::proofs::Values::not_above))]
 fn short_value(digits: &[u8]) -> u64
     requires digits { IsTrue (list_all is_digit digits.now) }
@@ -32,7 +32,7 @@ fn short_value(digits: &[u8]) -> u64
     bounded_value(digits, 999_999_999).unwrap_or(0)
 }
 
-/// Whether the text is a number without a sign of at most so many digits before and behind the point, and this unit.
+/// Whether the text is an unsigned number with 1 to `most` digits before the point and at most `places` after it, followed by this unit.
 #[tactic(auto, using(crate::proofs::Forms::has_form_is))]
 fn has_form(text: &[u8], most: usize, places: u32, unit: &[u8]) -> bool
     ensures { result ≡ has_form most places unit.now text.now }
@@ -45,7 +45,7 @@ fn has_form(text: &[u8], most: usize, places: u32, unit: &[u8]) -> bool
     parts.unit == unit
 }
 
-/// The number that the text writes, in units of the last of so many places.
+/// Returns the value of the text as a fixed-point number with `places` decimal places.
 #[tactic(auto, using(crate::proofs::Forms::scaled_is))]
 fn scaled(text: &[u8], places: u32) -> u64
     requires places { places ≤ 4 }
@@ -59,7 +59,7 @@ fn scaled(text: &[u8], places: u32) -> u64
     short_value(parts.whole) * 10u64.pow(places) + fraction
 }
 
-/// The number of a text of this form, in units of the last of its places, none for another text.
+/// Returns the value of a text of this form as a fixed-point number with `places` decimal places, or `None` for any other text.
 #[tactic(auto, using(crate::proofs::Forms::has_form_is))]
 fn formed(text: &[u8], most: usize, places: u32, unit: &[u8]) -> Option<u64>
     requires most { most ≤ 9 }
@@ -74,7 +74,7 @@ fn formed(text: &[u8], most: usize, places: u32, unit: &[u8]) -> Option<u64>
     }
 }
 
-/// The number of a text of this form, as `formed` has it. None also where the number as written is above the bound.
+/// Like `formed`, but also returns `None` if the value as written is above the bound.
 #[tactic(auto, using(crate::proofs::Forms::form_of_is, crate::proofs::Values::above, crate::proofs::Values::not_above))]
 fn bounded(text: &[u8], bound: u64, most: usize, places: u32, unit: &[u8]) -> Option<u64>
     requires most { most ≤ 9 }
@@ -86,7 +86,7 @@ fn bounded(text: &[u8], bound: u64, most: usize, places: u32, unit: &[u8]) -> Op
     if number > bound { None } else { Some(number) }
 }
 
-/// Whether the text is an optional `-`, one or more digits, optionally a point and one or more digits, and this unit.
+/// Whether the text is an optional `-`, one or more digits, optionally a point and one or more digits, and then this unit.
 #[tactic(auto, using(crate::proofs::Forms::is_decimal_with_is))]
 pub fn is_decimal_with(unit: &[u8], text: &[u8]) -> bool
     ensures { result ≡ is_decimal_with unit.now text.now }
@@ -96,8 +96,8 @@ pub fn is_decimal_with(unit: &[u8], text: &[u8]) -> bool
     !parts.whole.is_empty() && parts.unit == unit
 }
 
-/// A length without a sign in units of 1/64 pixel, cut to units: 1 to 7 digits, optionally a point and 1 or 2 digits,
-/// then `px`; at most 1,000,000 pixels. None for any other word.
+/// Parses an unsigned length into units of 1/64 pixel, truncated: 1 to 7 digits, optionally a point and 1 or 2 digits,
+/// then `px`; at most 1,000,000 pixels. Returns `None` for any other word.
 #[tactic(auto, using(crate::proofs::Forms::length_of_is))]
 pub fn length(word: &[u8]) -> Option<u64>
     ensures value { result ≡ length_of word.now }
@@ -107,8 +107,8 @@ pub fn length(word: &[u8]) -> Option<u64>
     Some(hundredths * 64 / 100)
 }
 
-/// A percentage without a sign in hundredths of a percent: 1 to 7 digits, optionally a point and 1 or 2 digits, then
-/// `%`; at most 10,000 percent. None for any other word.
+/// Parses an unsigned percentage into hundredths of a percent: 1 to 7 digits, optionally a point and 1 or 2 digits, then
+/// `%`; at most 10,000 percent. Returns `None` for any other word.
 #[tactic(auto, using(crate::proofs::Forms::percent_of_is))]
 pub fn percent(word: &[u8]) -> Option<u64>
     ensures value { result ≡ percent_of word.now }
@@ -117,7 +117,7 @@ pub fn percent(word: &[u8]) -> Option<u64>
     bounded(word, 1_000_000, 7, 2, b"%")
 }
 
-/// A number with this sign.
+/// Returns the number, negated if `negative`.
 #[tactic(auto, unfolding(crate::specs::Numbers::with_sign))]
 fn with_sign(negative: bool, number: u64) -> i64
     requires { number < 2 ^ 53 }
@@ -132,7 +132,7 @@ fn with_sign(negative: bool, number: u64) -> i64
     }
 }
 
-/// A length with an optional `-` before it, in units of 1/64 pixel, cut toward zero. None for any other word.
+/// Parses a length with an optional leading `-` into units of 1/64 pixel, truncated toward zero. Returns `None` for any other word.
 #[tactic(auto, using(crate::proofs::Forms::signed_of_is))]
 pub fn signed_length(word: &[u8]) -> Option<i64>
     ensures value { result ≡ signed_of word.now }
@@ -142,7 +142,7 @@ pub fn signed_length(word: &[u8]) -> Option<i64>
     Some(with_sign(negative, length(number)?))
 }
 
-/// A percentage with an optional `-` before it, in hundredths of a percent. None for any other word.
+/// Parses a percentage with an optional leading `-` into hundredths of a percent. Returns `None` for any other word.
 #[tactic(auto, using(crate::proofs::Forms::signed_percent_of_is))]
 pub fn signed_percent(word: &[u8]) -> Option<i64>
     ensures value { result ≡ signed_percent_of word.now }
@@ -152,8 +152,8 @@ pub fn signed_percent(word: &[u8]) -> Option<i64>
     Some(with_sign(negative, percent(number)?))
 }
 
-/// A number in ten-thousandths: an optional `-`, 1 to 9 digits, optionally a point and 1 to 4 digits. None for any
-/// other word.
+/// Parses a number into ten-thousandths: an optional `-`, 1 to 9 digits, optionally a point and 1 to 4 digits. Returns
+/// `None` for any other word.
 #[tactic(auto, using(crate::proofs::Forms::number_of_is, crate::proofs::Forms::ten_thousandths_of_is))]
 pub fn number(word: &[u8]) -> Option<i64>
     ensures { result ≡ number_of word.now }
@@ -179,7 +179,7 @@ fn are_digits(word: &[u8]) -> bool
     word.iter().all(|byte| is_digit(*byte))
 }
 
-/// A whole number: `0`, or digits without a leading zero; at most 1,000,000,000,000. None for any other word.
+/// Parses a whole number: `0`, or digits without a leading zero; at most 1,000,000,000,000. Returns `None` for any other word.
 #[tactic(auto, using(crate::proofs::Forms::whole_of_is))]
 pub fn whole(word: &[u8]) -> Option<u64>
     ensures { result ≡ whole_of word.now }

@@ -5,18 +5,18 @@ ghost use Rattle.word_model.specs.Numbers.{begins_with, unsigned, leading_digits
 
 use crate::names::is_digit;
 
-/// A number without a sign, in the parts that it is written in.
+/// An unsigned number, split into its parts as written.
 #[derive(Clone, Copy)]
 pub struct Parts<'a> {
     /// The digits before the point.
     pub whole: &'a [u8],
-    /// The digits behind the point, none where there is no point.
+    /// The digits after the point; empty if there is no point.
     pub fraction: &'a [u8],
-    /// What stands behind the number.
+    /// Everything after the number.
     pub unit: &'a [u8],
 }
 
-/// The number of digits that the text begins with.
+/// Returns the number of leading digits of the text.
 fn digit_count(text: &[u8]) -> usize
     ensures count { result ≡ prefix_len is_digit text.now }
     ensures bound { result ≤ length text.now }
@@ -24,7 +24,7 @@ fn digit_count(text: &[u8]) -> usize
     text.iter().take_while(|byte| is_digit(**byte)).count()
 }
 
-/// The digits that the text begins with, and what stands behind them.
+/// Splits the text into its leading digits and the rest.
 #[tactic(auto, using(crate::proofs::Values::leading_all), unfolding(crate::specs::Numbers::behind_digits))]
 pub fn split_digits(text: &[u8]) -> (&[u8], &[u8])
     ensures digits { result.0.now ≡ leading_digits text.now }
@@ -45,7 +45,7 @@ pub fn begins_with(text: &[u8], byte: u8) -> bool
     }
 }
 
-/// What stands behind this byte, where the text begins with it.
+/// Strips this byte from the start of the text; returns `None` if the text doesn't begin with it.
 #[tactic(auto, unfolding(crate::specs::Numbers::begins_with))]
 fn strip(text: &[u8], byte: u8) -> Option<&[u8]>
     ensures begins { is_some result ≡ begins_with byte text.now }
@@ -57,7 +57,8 @@ fn strip(text: &[u8], byte: u8) -> Option<&[u8]>
     }
 }
 
-/// The digits behind the point that the text begins with, and what stands behind them.
+/// Splits a leading point with at least one digit off the text: returns those digits and the rest. Without one, the digits are
+/// empty and the rest is the whole text.
 #[tactic(auto, using(crate::proofs::Digits::point_digits_are, crate::proofs::Digits::behind_point_is))]
 fn split_point(text: &[u8]) -> (&[u8], &[u8])
     ensures digits { result.0.now ≡ point_digits text.now }
@@ -77,7 +78,7 @@ fn split_point(text: &[u8]) -> (&[u8], &[u8])
     }
 }
 
-/// The parts of a number without a sign.
+/// Splits an unsigned number into its parts.
 pub fn split(text: &[u8]) -> Parts<'_>
     ensures whole { result.whole.now ≡ leading_digits text.now }
     ensures fraction { result.fraction.now ≡ fraction_digits text.now }
@@ -94,7 +95,7 @@ pub fn split(text: &[u8]) -> Parts<'_>
     }
 }
 
-/// Whether a `-` stands before the number, and the number behind it.
+/// Strips an optional leading `-`: returns whether it was there, and the rest.
 #[tactic(auto, using(crate::proofs::Digits::unsigned_is))]
 pub fn split_sign(text: &[u8]) -> (bool, &[u8])
     ensures negative { result.0 ≡ begins_with 45 text.now }

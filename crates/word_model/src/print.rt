@@ -3,7 +3,7 @@ ghost use Rattle.word_model.specs.Numbers.{decimal};
 
 use std::alloc::AllocError;
 
-/// Writes a number in decimal at the end of the buffer, and answers where it begins.
+/// Writes a number in decimal at the end of the buffer, and returns the index of its first digit.
 fn write_decimal(buffer: &mut [u8; 39], value: u128) -> usize
     ensures text { drop result buffer.new ≡ decimal value }
     ensures bound { result ≤ 39 }
@@ -19,7 +19,7 @@ fn write_decimal(buffer: &mut [u8; 39], value: u128) -> usize
     0
 }
 
-/// Appends a number in decimal, without a leading zero. Where memory is refused, nothing is appended.
+/// Appends a number in decimal, without a leading zero. If an allocation fails, nothing is appended.
 pub fn push_decimal(out: &mut Vec<u8>, value: u128) -> Result<(), AllocError>
     ensures ok { OnOk result (out.new.items ≡ out.old.items ++ decimal value) }
     ensures err { OnErr result (out.new.items ≡ out.old.items) }

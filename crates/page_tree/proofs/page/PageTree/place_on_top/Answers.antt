@@ -11,10 +11,11 @@ use Rattle.page_tree.specs.Views.{PageElements}
 use Rattle.page_tree.proofs.Places.{removed_count, shown_count}
 use Rattle.page_tree.proofs.Placing.{top_missing, top_full}
 use Rattle.page_tree.proofs.Inserting.{top_put}
-use Rattle.page_tree.proofs.Outcomes.{kept_then, kept_removed, kept_adopted, kept_rest, kept_count, IsPage-kept, document_within, some_still}
+use Rattle.page_tree.proofs.Outcomes.{kept_then, kept_removed, kept_adopted, kept_rest, kept_count, IsPage-kept, document_within}
 use Rattle.page_tree.proofs.Moves.{placed_only}
 use Rattle.page_tree.proofs.page.PageTree.place_on_top.Goals as goal
 use Rattle.element_tree.proofs.Nodes.{length-changed}
+use Rattle.style_values.proofs.Named.{is_mapped}
 
 pub returns-then-is_no_root-clause-refused : goal.returns-then-is_no_root-clause-refused
 returns-then-is_no_root-clause-refused c =
@@ -27,7 +28,7 @@ returns-then-is_some-clause-refused c =
     ap (λ (page : PageElements). placing (InDocument c.args.document.0) (c.args.node.0) (option_map number c.args.sibling) (page.tree)) (sym c.self.view_is)
     ∙ top_full c.self.inside.tree c.self.inside.documents.held c.self.invariant.most_depth c.holds-held.ensures.forest
     c.args.document.0 (c.args.node.0) (option_map number c.args.sibling) c.is_no_root.result c.is_no_root.ensures c.if-is_no_root.false
-    (option_map number c.root_of.result) c.root_of.ensures (some_still number c.root_of.result ∙ sym c.is_some.ensures ∙ c.if-is_some.true)
+    (option_map number c.root_of.result) c.root_of.ensures (is_mapped number c.root_of.result ∙ sym c.is_some.ensures ∙ c.if-is_some.true)
 
 pub set_root-requires : goal.set_root-requires
 set_root-requires c =
@@ -51,7 +52,7 @@ invariant_of-self c =
     (top_put c.self.inside.tree c.self.inside.documents c.holds-held.ensures.forest (c.args.node.0) c.leave.new.documents c.leave.ensures
     c.remove.new.self c.remove.ensures.removed c.self.invariant.most_depth c.args.document.0 c.set_root.new.self c.set_root.ensures
     (option_map number c.args.sibling) c.is_no_root.result c.is_no_root.ensures c.if-is_no_root.false
-    (option_map number c.root_of.result) c.root_of.ensures (some_still number c.root_of.result ∙ sym c.is_some.ensures ∙ c.if-is_some.false)
+    (option_map number c.root_of.result) c.root_of.ensures (is_mapped number c.root_of.result ∙ sym c.is_some.ensures ∙ c.if-is_some.false)
     _ c.entered.ensures.inserted))
 
 pub returns-clause-done : goal.returns-clause-done
@@ -60,7 +61,7 @@ returns-clause-done c =
     ∙ top_put c.self.inside.tree c.self.inside.documents c.holds-held.ensures.forest (c.args.node.0) c.leave.new.documents c.leave.ensures
     c.remove.new.self c.remove.ensures.removed c.self.invariant.most_depth c.args.document.0 c.set_root.new.self c.set_root.ensures
     (option_map number c.args.sibling) c.is_no_root.result c.is_no_root.ensures c.if-is_no_root.false
-    (option_map number c.root_of.result) c.root_of.ensures (some_still number c.root_of.result ∙ sym c.is_some.ensures ∙ c.if-is_some.false)
+    (option_map number c.root_of.result) c.root_of.ensures (is_mapped number c.root_of.result ∙ sym c.is_some.ensures ∙ c.if-is_some.false)
     _ c.entered.ensures.inserted
 
 pub returns-clause-rest : goal.returns-clause-rest
