@@ -7,7 +7,7 @@ unfoldable pub digits_in : ℕ → ℕ → List ℕ
 digits_in zero number = []
 digits_in (suc places) number = (48 + number / 10 ^ places % 10) ∷ digits_in places number
 
--- puts a digit before digits that have no final zeros, which it mustn't become itself
+-- puts a digit before digits without final zeros; a zero is dropped if no digits follow it
 unfoldable pub with_digit : ℕ → List ℕ → List ℕ
 with_digit digit [] = cond (digit == 48) [] (digit ∷ [])
 with_digit digit (d ∷ ds) = digit ∷ d ∷ ds
