@@ -16,7 +16,7 @@ use Rattle.page_model.specs.Loop.{broadcast, round}
 abbrev pub goes_on : ℕ → World → Bool
 goes_on document world = is_active (world.tree) document && has_active document (world.resize_observers)
 
--- the rounds of a loop, at most so many, from a world in which observations have been gathered
+-- the rounds of a loop, at most `most` of them, from a world in which observations have been gathered
 unfoldable pub rounds_up_to : ℕ → Script → ℕ → World → Said World
 unfolding repeat broadcast
 rounds_up_to most script document world = repeat (goes_on document) (round script document) most world

@@ -8,7 +8,7 @@ use Rattle.page_model.specs.Intersections.{notify}
 use Rattle.page_model.specs.Ticks.{run_first}
 use Rattle.loop_laws.specs.Rounds.{most_commands}
 
--- takes off the first task and runs it, as long as there is one and at most so many times
+-- takes off the first task and runs it, as long as there is one and at most `most` times
 unfoldable pub tasks_up_to : ℕ → Script → World → Said World
 unfolding repeat notify call ◌followed_by◌
 tasks_up_to most script world = repeat (λ now. has_tasks (now.tasks)) (λ now. run_first script (now.tasks) now) most world

@@ -29,7 +29,7 @@ abbrev pub stands_above : Tree → List ℕ → ℕ → Bool
 stands_above tree targets n = is_some (element_at tree n).parent && list_any (is_inclusive_ancestor tree n) targets
 
 -- whether an action takes effect and takes an inclusive ancestor of one of these targets, in the tree as it is before, out of its parent.
--- Moving an element without a parent, whether it is a root element or in no tree yet, decreases no depth, and so doesn't count
+-- Moving an element without a parent, whether it is a root element or in no document's tree, decreases no depth, and so doesn't count
 abbrev pub lifts : Script → List ℕ → Moment → Action → Option Operand → Bool
 lifts script targets now action None = false
 lifts script targets now action (Some node) =

@@ -50,7 +50,7 @@ unfolding query_text
 commas_text [] = []
 commas_text (q ∷ qs) = codes "," ++ (query_text q ++ commas_text qs)
 
--- a comma between each two queries
+-- the queries, separated by commas
 unfoldable pub list_text : List MediaQuery → List ℕ
 unfolding query_text commas_text
 list_text [] = []

@@ -4,7 +4,7 @@ use Rattle.page_model.specs.World.{Task, World}
 use Rattle.page_model.specs.Ranges.{IsInRange}
 use Rattle.page_laws.specs.Bounds.{IsWithinLimits}
 
--- each number in the world refers to something that exists, there being so many handlers, and the world is within its limits
+-- each number in the world refers to something that exists, with the given number of handlers, and the world is within its limits
 unfoldable pub IsReadyFor : ℕ → World → Type 0
 IsReadyFor handlers world = IsInRange handlers world × IsWithinLimits world
 

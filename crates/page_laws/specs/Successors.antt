@@ -22,8 +22,8 @@ is_come_to wanted (Some document) = has_come_to wanted (document.state)
 abbrev pub came_to : DocumentState → Tree → ℕ → Bool
 came_to wanted tree document = is_come_to wanted (slice_get tree.documents document)
 
--- a world before a command and one after it: there are no fewer elements, document states don't go back, so a Dead document stays Dead,
--- names still refer to the same things, and the clock, the count of commands and the version are unchanged
+-- a later world within the same command, once that is counted: there are no fewer elements, document states don't go back, so a Dead
+-- document stays Dead, names still refer to the same things, and the clock, the count of commands and the version are unchanged
 pub record IsSuccessor (before after : World) : Type 0 where
   pub elements : length before.tree.elements ≤ length after.tree.elements
   pub states : (wanted : DocumentState) (document : ℕ) → IsTrue (came_to wanted before.tree document) → IsTrue (came_to wanted after.tree document)

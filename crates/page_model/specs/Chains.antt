@@ -145,8 +145,8 @@ common_part first others =
     let common = fold overlap first others in
     cond (has_points common) (Some common) None
 
--- a margin in units. A percentage is resolved against the rectangle's width before it is expanded, on all four sides, and truncated
--- toward zero. (That this holds for top and bottom too, and the truncation, are this project's own reading.)
+-- a margin in units. A percentage on any of the four sides is resolved against the width of the rectangle before its expansion, and
+-- truncated toward zero. (That this holds for top and bottom too, and the truncation, are this project's own reading.)
 abbrev pub margin_units : ℤ → MarginPart → ℤ
 margin_units width (MarginPixels units) = units
 margin_units width (MarginPercentage hundredths) = int_div (width *ℤ hundredths) (pos 10000)

@@ -310,7 +310,7 @@ holds world present condition = do
   answer ← asked world present (condition.asks)
   Did (turned (condition.negated) answer)
 
--- counts a command that begins, and meets the limit on their number
+-- counts a command that begins; meets the limit if there is no room for one more
 unfoldable pub begun_in : World → Step World
 unfolding ◌>>=◌ ◌>>◌
 begun_in world = do

@@ -5,7 +5,7 @@ use Rattle.layout_model.specs.Nodes.{Node, levels, top_of, is_in_path, depth_of}
 use Rattle.page_model.specs.World.{Element, DocumentState, Fresh, Active, Dead, Tree, Container, InElement, InDocument}
 use Rattle.page_model.specs.Lookups.{element_at, document_at, change_each, change_element, change_document, without}
 
--- how many levels of nested frames are searched for documents: more than there can be documents, a bound of this project
+-- how many levels of nested frames are searched: more than the number of documents that there can be; a bound of this project
 abbrev pub frame_levels : ℕ
 frame_levels = 65536
 
@@ -152,7 +152,7 @@ abbrev pub next_after : ℕ → List ℕ → Option ℕ
 next_after n [] = None
 next_after n (x ∷ xs) = cond (x == n) (first_of_list xs) (next_after n xs)
 
--- the sibling that an element is inserted before: if the element itself is given, its next sibling is used instead
+-- the sibling that an element is inserted before: if this is the element itself, its next sibling is used instead
 abbrev pub sibling_meant : Tree → Container → ℕ → Option ℕ → Option ℕ
 sibling_meant tree (InElement parent) n (Some sibling) =
     cond (sibling == n) (next_after n (element_at tree parent).children) (Some sibling)

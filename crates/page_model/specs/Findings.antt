@@ -23,8 +23,8 @@ pub data Relation : Type 0 where
 abbrev pub is_on_chain : Tree → ℕ → ℕ → Bool
 is_on_chain tree element target = cond (element == target) false (is_in_path (held (nodes_of tree)) element target)
 
--- a target is apart from an explicit root if it belongs to another node document. It is also apart from an element as root if that
--- isn't on its chain, or if one of the two has no box
+-- a target is apart from an explicit root if their node documents differ. It is also apart from a root that is an element if this
+-- element isn't on its chain, or if one of the two has no box
 abbrev pub is_apart : Shown → Root → ℕ → Bool
 is_apart shown ImplicitRoot target = false
 is_apart shown (DocumentRoot root) target = not ((element_at (shown.tree) target).document == root)

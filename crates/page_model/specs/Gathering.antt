@@ -89,7 +89,7 @@ size_entry sight observation = record {
   depth = sight.depth (observation.target);
 }
 
--- sets the last reported size of an observation if it is among those delivered: one that was made again for the same target isn't
+-- sets the last reported size of an observation if it is among those delivered; one made anew for the same target isn't among them
 abbrev pub reported : Sight → List Observation → Observation → Observation
 reported sight delivered observation =
     cond (list_any (λ (each : Observation). each.serial == observation.serial) delivered)

@@ -98,7 +98,7 @@ abbrev pub root_at : Container → Root
 root_at (InElement element) = ElementRoot element
 root_at (InDocument document) = DocumentRoot document
 
--- the root of an intersection observer, the implicit one where none is given
+-- the root of an intersection observer, the implicit one if none is given
 abbrev pub root_meant : List Name → Present → Option Operand → Step Root
 root_meant names present None = Did ImplicitRoot
 root_meant names present (Some operand) = container_meant names present operand >>= λ container. Did (root_at container)
@@ -106,7 +106,7 @@ root_meant names present (Some operand) = container_meant names present operand 
 abbrev pub handler_named : Handlers → List ℕ → Step ℕ
 handler_named handlers name = required ReferenceError (position (bytes_eq name) handlers)
 
--- an observer's handler, where one is given
+-- an observer's handler, if one is given
 abbrev pub handler_given : Handlers → Option (List ℕ) → Step (Option ℕ)
 handler_given handlers None = Did None
 handler_given handlers (Some name) = handler_named handlers name >>= λ handler. Did (Some handler)

@@ -117,7 +117,7 @@ unfoldable pub scroll_range : Tree → Screen → Container → Extent
 unfolding is_scroller view_of range_of range_of_view
 scroll_range tree screen target = extent_of (range_by tree screen target)
 
--- the scroll offset in force: the stored position, limited to the scroll range
+-- the scroll offset in force: the stored position, limited to the scroll range on each axis
 unfoldable pub scroll_offset : Tree → Screen → Scrolls → Container → Extent
 unfolding scroll_range
 scroll_offset tree screen scrolls target = offset_within target (scroll_range tree screen target) scrolls

@@ -42,7 +42,7 @@ caught_flow Next = Next
 caught_flow Thrown = Next
 caught_flow Limited = Limited
 
--- a throw ends no more than what is inside
+-- a throw ends only what is inside; the run goes on after it
 unfoldable pub caught : {S : Type 0} → Said S → Said S
 unfolding caught_flow
 caught said = record said { flow = caught_flow (said.flow) }
@@ -61,7 +61,7 @@ unfolding ◌followed_by◌
 for_each step [] state = silent state
 for_each step (item ∷ others) state = step item state followed_by for_each step others
 
--- repeats a step while a test holds, at most so many times
+-- repeats a step while a test holds, at most a given number of times
 unfoldable pub repeat : {S : Type 0} → (S → Bool) → (S → Said S) → ℕ → S → Said S
 unfolding ◌followed_by◌
 repeat goes_on step zero state = silent state

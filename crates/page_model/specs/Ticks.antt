@@ -58,8 +58,8 @@ abbrev pub event_target_of : Container → EventTarget
 event_target_of (InElement element) = ElementTarget element
 event_target_of (InDocument document) = DocumentTarget document
 
--- the scroll steps: the pending list is copied and cleared, and the event is fired at each target in the copy (CSSOM View, 13: run the
--- scroll steps)
+-- the scroll steps: the pending list is copied and cleared, and the event is fired at each target in the copy while the document is
+-- Active (CSSOM View, 13: run the scroll steps)
 unfoldable pub scroll_steps : Script → ℕ → World → Said World
 unfolding for_each fire
 scroll_steps script document world =

@@ -43,7 +43,7 @@ unfoldable pub is_stream : List ℕ → Bool
 unfolding page_named lines_of
 is_stream source = begins_with_page (lines_of source)
 
--- the line number at which one page more than so many is first named, if there is one
+-- the line number of the first page line of the page that follows the first `most` pages, if there is one
 unfoldable pub page_line_past : ℕ → List ℕ → Option ℕ
 unfolding page_starts
 page_line_past most source = option_map (λ start. start.line) (slice_get (page_starts source) most)

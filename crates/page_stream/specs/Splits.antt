@@ -18,7 +18,7 @@ pub record AreHeld (pages : List (List ℕ)) (lines : List ℕ) (current : ℕ) 
 abbrev pub IsSplit : Splitting → List OwnedLine → List ℕ → Type 0
 IsSplit split owned page = AreHeld split.pages.items split.lines.items split.current split.parts.items owned page
 
--- so many lines of a source were taken, which end at `from`, and the rest is left
+-- `number` lines of a source were taken, which end at `from`, and the rest is left
 pub record SplitTo (source : List ℕ) (split : Splitting) (most number from : ℕ) (rest : List ℕ) : Type 0 where
   pub starts : List PageLine
   pub owned : List OwnedLine

@@ -20,7 +20,7 @@ pub data InsetValue : Type 0 where
 abbrev pub cap : ℕ → ℕ
 cap units = min units 2147483647
 
--- so many hundredths of a percent of a basis, rounded down to units
+-- a number of hundredths of a percent of a basis, rounded down to units
 abbrev pub part : ℕ → ℕ → ℕ
 part hundredths basis = (basis * hundredths) / 10000
 
@@ -34,7 +34,7 @@ resolved (Percentage hundredths) basis = Some (cap (part hundredths basis))
 abbrev pub clamped : ℤ → ℤ
 clamped units = int_max (neg_ℤ (pos 2147483647)) (int_min (pos 2147483647) units)
 
--- so many hundredths of a percent of a basis, truncated toward zero
+-- a number of hundredths of a percent of a basis, truncated toward zero
 abbrev pub signed_part : ℤ → ℕ → ℤ
 signed_part hundredths basis = int_div (pos basis *ℤ hundredths) (pos 10000)
 

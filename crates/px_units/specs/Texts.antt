@@ -2,12 +2,12 @@
 use Rattle.std.specs.Prelude.{ℕ, zero, suc, ◌+◌, ◌*◌, ◌/◌, ◌%◌, ◌^◌, cond, ◌==◌, List, [], ◌∷◌, ◌++◌, ℤ, pos, int_lt, unsigned_abs}
 use Rattle.word_model.specs.Numbers.{decimal}
 
--- the last digits of a number, so many of them, with leading zeros
+-- a given number of the last digits of a number, with leading zeros
 unfoldable pub digits_in : ℕ → ℕ → List ℕ
 digits_in zero number = []
 digits_in (suc places) number = (48 + number / 10 ^ places % 10) ∷ digits_in places number
 
--- puts a digit before digits that have no final zeros, which it mustn't become itself
+-- puts a digit before digits without final zeros; a zero is dropped if no digits follow it
 unfoldable pub with_digit : ℕ → List ℕ → List ℕ
 with_digit digit [] = cond (digit == 48) [] (digit ∷ [])
 with_digit digit (d ∷ ds) = digit ∷ d ∷ ds

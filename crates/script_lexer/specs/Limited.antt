@@ -1,4 +1,4 @@
--- The lines and words of a text whose lines may have so many bytes. With 4,096 this is the lexing of a script.
+-- The lines and words of a text whose lines may have up to `most_line` bytes. With 4,096 this is the lexing of a script.
 use Rattle.std.specs.Prelude.{ℕ, Bool, cond, ◌&&◌, ◌||◌, ◌==◌, nat_lt, nat_le, List, [], ◌∷◌}
 use Rattle.word_model.specs.Numbers.{begins_with}
 use Rattle.script_model.specs.Lexing.{Scan, Lexed, Whole, ByteClass, LineFeedByte, LongByte, SpaceByte, WordByte, ForbiddenByte, line_start, close_word, add_line, ends, next_line, look_as}

@@ -50,7 +50,7 @@ card_lines card =
     ∷ around (codes "io-observe lazy g") card []
     ∷ []
 
--- the lines of so many cards, starting with this one
+-- the lines of a number of cards, starting with this one
 unfoldable pub cards_from : ℕ → ℕ → List (List ℕ)
 unfolding card_lines
 cards_from card zero = []

@@ -61,7 +61,7 @@ digit_at most value [] = Err 0
 digit_at most value (b ∷ bs) =
     cond (is_digit_under most value b) (Ok (with_digit value b, bs)) (Err (length (b ∷ bs)))
 
--- reads up to so many more digits of a number
+-- reads up to a given number of further digits
 unfoldable pub digits_at : ℕ → ℕ → ℕ → List ℕ → ℕ × List ℕ
 digits_at zero most value text = (value, text)
 digits_at (suc places) most value [] = (value, [])
@@ -157,7 +157,7 @@ unfolding gap_at word_at feature_at
 joined_at joint text =
     gap_at text >>= λ next. word_at joint next >>= λ rest. gap_at rest >>= λ inside. feature_at inside
 
--- features joined in this way, up to the end of the query; the first number is greater than their number can be
+-- features joined in this way, up to the end of the query; the first argument is more than the number of features that there can be
 unfoldable pub more_at : ℕ → List ℕ → List ℕ → Read (List Feature)
 unfolding query_ends joined_at
 more_at zero joint text = Ok ([], text)
@@ -216,7 +216,7 @@ query_at text =
     (cond (begins_with 111 text) (only_at text)
     (cond (begins_with 40 text) (condition_at text) (typed_at NoPrefix text)))
 
--- the queries after commas; the first number is greater than their number can be
+-- the queries after commas; the first argument is more than the number of queries that there can be
 unfoldable pub more_queries_at : ℕ → List ℕ → Result (List MediaQuery) ℕ
 unfolding is_empty byte_at skip query_at
 more_queries_at zero text = Ok []

@@ -17,7 +17,7 @@ pub data MediaType : Type 0 where
   ScreenMedia : MediaType
   PrintMedia : MediaType
 
--- what stands before a media type
+-- what comes before a media type
 pub data Prefix : Type 0 where
   NoPrefix : Prefix
   NotPrefix : Prefix

@@ -3,7 +3,7 @@ use Rattle.std.specs.Prelude.{ℕ, ◌+◌, cond, List, [], ◌∷◌, Option, S
 use Rattle.script_model.specs.Syntax.{Command, Simple, Each, When, Block, NoMore, Then, Item, Outside, Tick, Handler}
 
 unfoldable mutual
-  -- the number of commands in a command: the command itself and those in its block
+  -- counts a command and those in its block
   pub commands_in : Command → ℕ
   commands_in (Simple line action) = 1
   commands_in (Each line block end_line) = 1 + block_commands block

@@ -22,7 +22,7 @@ abbrev pub meets_text : Bool → List ℕ
 meets_text true = codes "yes"
 meets_text false = codes "no"
 
--- left, top, width and height; a width or height is negative where opposite edges cross
+-- left, top, width and height; a width or height is negative if opposite edges cross
 unfoldable pub rect_fields : Rect → List (List ℕ)
 unfolding pixel_text
 rect_fields r =

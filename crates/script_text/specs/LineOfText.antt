@@ -6,7 +6,7 @@ unfoldable pub first_line : List ℕ → List ℕ
 first_line [] = []
 first_line (b ∷ bs) = cond (b == 10) [] (b ∷ first_line bs)
 
--- the text after so many line feeds
+-- the text after a given number of line feeds
 unfoldable pub behind_feeds : ℕ → List ℕ → List ℕ
 behind_feeds zero text = text
 behind_feeds (suc feeds) [] = []

@@ -4,7 +4,7 @@ use Rattle.std.specs.Prelude.{ℕ, zero, suc, ◌/◌, ◌%◌, ℤ, pos, negsuc
 use Rattle.word_model.specs.Numbers.{decimal}
 use Rattle.media_queries.specs.LengthText.{last_digit, length_text}
 
--- a number with so many places after the point, given in units of the last place, printed with all these places before a text
+-- a number with a given number of places after the point, counted in units of the last one, printed with all these places before a text
 unfoldable pub all_places : ℕ → ℕ → List ℕ → List ℕ
 unfolding decimal
 all_places zero number behind = decimal number ++ (46 ∷ behind)

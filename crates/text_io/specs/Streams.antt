@@ -8,7 +8,7 @@ use Rattle.text_io.specs.declared.streams.TextFault.TheVariants.{ReadFault, Writ
 abbrev pub Rose : ℕ → ℕ → Type 0
 Rose before after = after ≢ 2 ^ 64 - 1 → before < after
 
--- a text exceeds a limit: the bytes within the limit and one more were taken, and so many of those within it are line feeds
+-- a text exceeds a limit: the bytes within the limit and one more were taken, and `feeds` of those within it are line feeds
 pub record PassesLimit (text : List ℕ) (after : Option (List ℕ)) (limit feeds : ℕ) : Type 0 where
   pub longer : limit < length text
   pub taken : after ≡ Some (drop (limit + 1) text)
@@ -21,7 +21,7 @@ IsCauseOfReading WriteFault left after limit before faults = ⊥
 IsCauseOfReading (TooLong feeds) left after limit before faults = (feeds ≤ limit) × (faults ≡ before) × IfSome left (λ text. PassesLimit text after limit feeds)
 IsCauseOfReading Memory left after limit before faults = faults ≡ before
 
--- at most so many bytes were taken from a source
+-- at most `most` bytes were taken from a source
 abbrev pub TakesAtMost : Option (List ℕ) → Option (List ℕ) → ℕ → Type 0
 TakesAtMost left after most = (given : List ℕ) × Consumes left after given × (length given ≤ most)
 

@@ -18,7 +18,7 @@ unfoldable pub how_lines_differ : List ℕ → List ℕ → How
 unfolding is_trace_line
 how_lines_differ expected recorded = cond (is_trace_line recorded) (Text (column_of expected recorded)) NotALine
 
--- the judgement after so many equal lines, from the lines that are left of both traces
+-- the judgement after a number of equal lines, from the lines that are left of both traces
 abbrev pub from_there : ℕ → List (List ℕ) → List (List ℕ) → Judgement
 from_there equal [] [] = Equal equal
 from_there equal [] (recorded ∷ others) = Differs (equal + 1) Extra

@@ -67,7 +67,7 @@ unfoldable pub ratio_of : List ℕ → Option (ℕ × ℕ)
 unfolding number_of over
 ratio_of field = number_of (2 ^ 128 - 1) (leading_digits field) >>= λ part. over part (behind_digits field)
 
--- whether these are the decimals of so many 64ths, by long division
+-- whether these are the decimals of `left` 64ths, by long division
 unfoldable pub are_decimals : List ℕ → ℕ → Bool
 are_decimals [] left = left == 0
 are_decimals (d ∷ ds) left = not (left == 0) && d == 48 + left * 10 / 64 && are_decimals ds (left * 10 % 64)

@@ -73,7 +73,7 @@ has_form most places unit text =
     nat_lt 0 (length (leading_digits text)) && nat_le (length (leading_digits text)) most
     && nat_le (length (fraction_digits text)) places && bytes_eq (unit_of text) unit
 
--- the number that is written, times 10 to the power of `places`, if it has no more digits than that after its point
+-- 10 ^ `places` times the number that is written, if it has at most `places` digits after its point
 unfoldable pub scaled : ℕ → List ℕ → ℕ
 unfolding digits_value leading_digits point_digits
 scaled places text =
