@@ -1,4 +1,4 @@
-"""The lines of a script: commands, handlers and blocks (docs/SCRIPT.md, 'Commands' and 'Limits', 'The first fault of a text').
+"""The lines of a script: commands, handlers and blocks (docs/SCRIPT.md, 'Commands', 'Limits' and 'The first fault of a text').
 
 `parse` answers a Script, or raises the first Fault or TextLimit in the order of the lines; in one line the bytes come first,
 then its words, then the limits `nesting` and `handlers`.

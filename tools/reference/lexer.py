@@ -1,4 +1,4 @@
-"""Bytes, lines and words of a script (docs/SCRIPT.md, 'Bytes, lines, words' and 'Limits', 'The first fault of a text').
+"""Bytes, lines and words of a script (docs/SCRIPT.md, 'Bytes, lines, words', 'Limits' and 'The first fault of a text').
 
 Lines are handed out one at a time, so that the first fault or limit in the order of the lines comes first.
 """
