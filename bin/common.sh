@@ -1,20 +1,20 @@
-# What bin/build and bin/replay share; each reads this file. Status 70: the program isn't there and couldn't be made.
+# Shared by bin/build and bin/replay, which source this file. Exit status 70: there is no program, and it couldn't be built.
 top="$(cd "$(dirname "${BASH_SOURCE[0]}")/.." && pwd)" || exit 70
 program="$top/crates/replay/out/replay"
 
-# A line on standard error, from the script that was called.
+# Writes a line to standard error, after the name of the script that was called.
 say() {
   printf '%s: %s\n' "$(basename "$0")" "$*" >&2
 }
 
 require_kit() {
   if ! command -v rt >/dev/null; then
-    say "the Rattle kit's command rt, which proves and builds the program, isn't on the PATH"
+    say "rt, the command of the Rattle kit, isn't on the PATH; it is needed to prove and build the program"
     exit 70
   fi
 }
 
-# The rows of crates.txt of the crates that the program stands on and of its own.
+# Prints the rows of crates.txt for the program's crate and the crates that it depends on.
 rows() {
   awk '
     function visit(name,    words, count, at) {
@@ -29,8 +29,8 @@ rows() {
   ' "$top/crates.txt"
 }
 
-# Whether no file that the program is made from is newer than the program.
-is_current() {
+# Whether the program is up to date: no file that it is built from is newer.
+is_up_to_date() {
   local places=("$top/crates.txt") name
   for name in $(rows | cut -d: -f1); do
     places+=("$top/crates/$name")
