@@ -10,7 +10,7 @@ be the proved program's byte for byte.
     limits       lines `limit`
     throws       lines `throw`
     loop_errors  lines `event error`
-    cures        a script changed so that a loop error doesn't come, and tried
+    cures        a script changed so that a loop error doesn't occur, and tried
     meetings     lines `intersect`
     boxes        the boxes of the tree at a command
     report       the trace with its explanations, as text or as JSON

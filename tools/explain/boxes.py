@@ -88,7 +88,7 @@ def _element_box(world, element, level):
     width, height = layout.size(element, BORDER)
     said = []
     if layout.size(element, CONTENT) != (width, height):
-        said.append('content ' + size(layout.size(element, CONTENT)))
+        said.append('content box ' + size(layout.size(element, CONTENT)))
     if element.style['overflow'] != 'visible':
         said.append('overflow: %s' % element.style['overflow'])
     if layout.scrolls(element):
@@ -99,7 +99,7 @@ def _element_box(world, element, level):
 def _scrolled(offset, range_):
     if range_ == (0, 0):
         return []
-    return ['scrolled to %s of %s' % (' '.join([px(units) for units in offset]), ' '.join([px(units) for units in range_]))]
+    return ['scrolled to %s (maximum %s)' % (' '.join([px(units) for units in offset]), ' '.join([px(units) for units in range_]))]
 
 
 def table(found):

@@ -1,5 +1,5 @@
-"""A script changed so that a loop error doesn't come: what a loop handler changes it asks for, in a posted task. It is tried.
-"""
+"""A script changed so that a loop error doesn't occur: what a loop handler changes is changed by a posted task instead. The changed
+script is tried."""
 from reference import available, grammar, program
 from reference.comparing import TooLong, time_limit
 from reference.lexer import Fault, TextLimit
@@ -7,8 +7,10 @@ from reference.page import Page
 from reference.resize_loop import LoopError
 
 SECONDS = 5
-_ASK = ('Cure: the handler makes no change of size in the loop; it asks for it, and the next update tells the new size in its '
-        'first round.')
+_POST = ("Fix: the handler doesn't %s inside the loop but posts a task that does, so the next update reports the %s in its "
+         'first round.')
+_CHANGE = _POST % ('change the size', 'new size')
+_OBSERVE = _POST % ('start observing', 'size')
 
 
 def cure(script, commands, document, causes, errors):
@@ -19,14 +21,15 @@ def cure(script, commands, document, causes, errors):
     wanted = {line: texts for line, texts in wanted.items() if line in commands.handler_of}
     if not wanted:
         return []
+    asked = _OBSERVE if all(text is None for _, text in causes) else _CHANGE
     if any(len(texts) > 1 or '$target' in text for texts in wanted.values() for text in texts):
-        return [_ASK, '  Post the handler of the change (`post`, `raf`), and name the elements there: `$target` is nothing in a '
-                      'task.']
+        return [asked, '  Move the change to a handler that is run by `post` or `raf`, and name the elements there: a task has no '
+                       '`$target`.']
     changes = {line: next(iter(texts)) for line, texts in wanted.items()}
     names = _fresh_names(commands, len(changes))
-    explained = [_ASK]
+    explained = [asked]
     for (line, text), name in zip(sorted(changes.items()), names):
-        explained += ['  line %d becomes' % line, '    post %s %s' % (document, name), '  and a handler is added',
+        explained += ['  line %d becomes' % line, '    post %s %s' % (document, name), '  and this handler is added',
                       '    handler %s' % name, '    %s' % text, '    end']
     return explained + _tried(_changed(script, document, dict(zip(sorted(changes), names)), changes), errors)
 
@@ -61,8 +64,8 @@ def _tried(text, errors):
         return []
     left = sum([isinstance(about, LoopError) for about in told])
     if status != program.DONE:
-        return ['  Tried: so changed, the script meets a limit.']
+        return ['  Tried: with this change the script meets a limit.']
     if left == 0:
-        return ['  Tried: so changed, the script runs without this event; it had %d.' % errors]
-    return ['  Tried: so changed, the script has %d of these events in place of %d; the others have causes of their own.' % (
+        return ['  Verified: with this change the script runs without this event (it had %d).' % errors]
+    return ['  Tried: with this change the script has %d of these events instead of %d; what remains has other causes.' % (
         left, errors)]

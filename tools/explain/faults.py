@@ -8,9 +8,9 @@ from .pointing import marked
 
 _QUERY_WORDS = ('all', 'screen', 'print', 'and', 'or', 'not', 'only', 'width', 'min-width', 'max-width', 'height', 'min-height',
                 'max-height', 'orientation', 'portrait', 'landscape')
-_QUERY_FORMS = ['The forms of a media query, of which commas part several:', '  [not|only] all|screen|print [and (FEATURE)]*',
+_QUERY_FORMS = ['A media query has one of these forms; several are separated by commas:', '  [not|only] all|screen|print [and (FEATURE)]*',
                 '  (FEATURE) [and (FEATURE)]*', '  (FEATURE) [or (FEATURE)]*', '  not (FEATURE)',
-                'A FEATURE is `width: LENGTH` or `height: LENGTH`, either maybe with `min-` or `max-` before it, or '
+                'A FEATURE is `width: LENGTH` or `height: LENGTH`, optionally with `min-` or `max-` before it, or '
                 '`orientation: portrait` or `orientation: landscape`.']
 
 
@@ -34,7 +34,7 @@ def _whole_form(fault, script):
     if isinstance(fault.cause, grammar.Unfit) and _is_first_word(fault.cause):
         return []
     known = grammar.form_of(first, version)
-    return ['The form of the line:' if len(known) == 1 else 'The forms of the line:'] + ['  ' + form for form in known]
+    return ['Syntax:' if len(known) == 1 else 'Syntax, one of:'] + ['  ' + form for form in known]
 
 
 def _version(script):
@@ -52,14 +52,14 @@ def _bad_byte(fault, script):
     byte = fault.cause.byte
     place = _place(script.text, fault)
     if byte == 13:
-        said = 'a carriage return, which may stand directly before a line feed only'
+        said = 'a carriage return, which is allowed only directly before a line feed'
     elif byte > 126:
-        said = 'the byte %02X' % byte if byte == 127 else 'the byte %02X, %s' % (byte, source.letter_said(script.text, place))
+        said = 'byte %02X' % byte if byte == 127 else 'byte %02X, %s' % (byte, source.letter_said(script.text, place))
     else:
-        said = 'the byte %02X, a control character' % byte
+        said = 'byte %02X, a control character' % byte
     explained = _show(fault, script, 1, said)
-    explained.append('A line holds printable ASCII, tabs, and a carriage return directly before its line feed; that goes for '
-                     'comments too.')
+    explained.append('A line may contain only printable ASCII, tabs, and a carriage return directly before its line feed; this '
+                     'applies to comments too.')
     return explained
 
 
@@ -76,8 +76,8 @@ def _unfit(fault, script):
     word = None if cause.word is None else cause.word.decode('ascii')
     if word is None:
         explained = _show(fault, script, 1, 'a word is missing')
-        return explained + ['Wanted is %s.' % cause.wanted.said]
-    explained = _show(fault, script, len(word), '`%s` stands here' % _short(word))
+        return explained + ['Expected %s.' % cause.wanted.said]
+    explained = _show(fault, script, len(word), 'unexpected `%s`' % _short(word))
     if cause.wanted is None:
         return explained + _unknown_command(word, cause.first_words, _version(script))
     if _is_first_word(cause) or cause.wanted.keywords in (('1',), ('1', '2')):
@@ -85,8 +85,9 @@ def _unfit(fault, script):
     find = hints.wrong_with_value if cause.wanted.shown == 'VALUE' else hints.wrong_with
     found = find(word, cause.wanted)
     if cause.wanted.shown == 'PROPERTY':
-        return explained + ['No style property is called so.', found or 'There are: %s.' % ', '.join(cause.wanted.keywords)]
-    explained.append('Wanted is %s.%s' % (cause.wanted.said, ' ' + cause.wanted.shape if cause.wanted.shape else ''))
+        return explained + ['There is no style property with this name.',
+                            found or 'The style properties are: %s.' % ', '.join(cause.wanted.keywords)]
+    explained.append('Expected %s.%s' % (cause.wanted.said, ' ' + cause.wanted.shape if cause.wanted.shape else ''))
     return explained + ([found] if found else [])
 
 
@@ -96,30 +97,30 @@ def _short(word):
 
 def _unknown_command(word, known, version):
     if word == 'script':
-        return ['`script` stands in the first line alone.']
-    explained = ['No line begins with `%s`.' % _short(word)]
+        return ['`script` is allowed only on the first line with words.']
+    explained = ["A line can't begin with `%s`." % _short(word)]
     if hints.of_version_2(word):
         return explained + [hints.of_version_2(word)]
     near = hints.close(word, known)
     if near:
-        return explained + ['Close to it:'] + ['  ' + form for name in near for form in grammar.form_of(name, version)]
+        return explained + ['Did you mean:'] + ['  ' + form for name in near for form in grammar.form_of(name, version)]
     return explained + ['A line begins with one of: %s.' % ', '.join(known)]
 
 
 def _first_line(cause):
     if _is_first_word(cause):
-        return ['The first line with words is `script 1` or `script 2`; comments and empty lines may stand before it.']
+        return ['The first line with words must be `script 1` or `script 2`; comments and empty lines may come before it.']
     versions = ' or '.join(['`%d`' % version for version in available.VERSIONS])
-    return ['Wanted is a version of the language: %s.' % versions]
+    return ['Expected a version of the language: %s.' % versions]
 
 
 def _too_many(fault, script):
     word = fault.cause.word.decode('ascii')
-    explained = _show(fault, script, len(word), '`%s` stands here' % _short(word)) + [
-        'The line is complete before this word. A comment begins with `#`.']
+    explained = _show(fault, script, len(word), 'unexpected `%s`' % _short(word)) + [
+        'The line is already complete before this word. A comment begins with `#`.']
     words = script.command(fault.line).split(' ')
     if words[0] == 'set' and words[2] in ('margin', 'padding', 'border'):
-        explained.append('`%s` takes one value, for all four sides; `%s-top` and the like take one for a side.' % (
+        explained.append('`%s` takes one value, for all four sides; `%s-top` and so on take one for a single side.' % (
             words[2], words[2]))
     return explained
 
@@ -134,20 +135,21 @@ def _bad_query(fault, script):
     text = fault.cause.text
     bad = fault.cause.column
     if bad > len(text):
-        explained = _show(fault, script, 1, 'something is missing')
+        explained = _show(fault, script, 1, 'the media query is incomplete')
     else:
-        explained = _show(fault, script, 1, '`%s` stands here' % chr(text[bad - 1]))
+        explained = _show(fault, script, 1, 'unexpected `%s`' % chr(text[bad - 1]))
     begun = text[:bad - 1].rstrip(b' \t')
     ending = media.shortest_ending(begun)
     if begun and not ending:
-        explained.append('Up to here it is one, `%s`, and this does not go on with it.' % begun.decode('ascii'))
+        explained.append("`%s` is valid, but can't be continued like this." % begun.decode('ascii'))
     elif begun:
-        explained.append('Up to here it begins one: `%s`, for example.' % (begun + ending).decode('ascii'))
+        explained.append('Up to here this is the beginning of a media query, for example of `%s`.' % (
+            begun + ending).decode('ascii'))
     if text[bad - 1:bad].isdigit() and text[bad - 2:bad - 1].isdigit():
-        explained.append('A length is at most 1000000px, of up to 7 digits before the point and 2 behind it.')
+        explained.append('A length is at most 1000000px, with up to 7 digits before the point and 2 after it.')
     near = _close_in_query(text, bad)
     if near:
-        explained.append('Close to it: %s.' % ', '.join(['`%s`' % word for word in near]))
+        explained.append(hints.did_you_mean(near))
     return explained + _QUERY_FORMS
 
 
@@ -162,14 +164,14 @@ def _close_in_query(text, bad):
 
 def _left_open(fault, script):
     lines = fault.cause.lines
-    explained = ['The script ends in line %d, and %s no `end` yet:' % (fault.line - 1, 'this has' if len(lines) == 1
-                                                                      else 'these have')]
+    explained = ['The script ends on line %d, but %s no `end` yet:' % (fault.line - 1, 'this has' if len(lines) == 1
+                                                                       else 'these have')]
     explained += ['  line %d: %s' % (line, script.command(line)) for line in lines]
-    return explained + ['Each `handler`, `each` and `when` has an `end` of its own; an `end` closes what was opened last.']
+    return explained + ['Each `handler`, `each` and `when` needs its own `end`; an `end` closes the one that was opened last.']
 
 
 def _no_first_line(fault, script):
-    return ['The script has no line with words. The first one is `script 1` or `script 2`.']
+    return ['The script has no line with words. The first one must be `script 1` or `script 2`.']
 
 
 _BY_CAUSE = {

@@ -4,6 +4,8 @@ import re
 
 from reference import forms, styles
 
+from .wording import listed
+
 
 def close(word, words, most=3):
     """The words that are close to this one, the closest first."""
@@ -11,22 +13,26 @@ def close(word, words, most=3):
     return exact or difflib.get_close_matches(word, words, most, 0.6)
 
 
+def did_you_mean(near):
+    return 'Did you mean %s?' % listed(['`%s`' % word for word in near], 'or')
+
+
 def of_version_2(word):
     """A sentence on a word of version 2, or None."""
     if word in ('ratio', 'device'):
-        return '`%s` is of version 2 of the language; such a script begins with `script 2`.' % word
+        return '`%s` needs version 2 of the language: begin the script with `script 2`.' % word
     return None
 
 
 def wrong_with(word, form):
     """A sentence on why a word isn't of its form, or None where the form says enough."""
     if form.shown == 'PROPERTY' and word in styles.POSITIONED:
-        return '`%s` is a property of version 2 of the language; such a script begins with `script 2`.' % word
+        return '`%s` is a property of version 2 of the language: begin the script with `script 2`.' % word
     if of_version_2(word) and form.keywords:
         return of_version_2(word)
     if form.keywords:
         near = close(word, form.keywords)
-        return 'Close to it: %s.' % ', '.join(['`%s`' % known for known in near]) if near else None
+        return did_you_mean(near) if near else None
     if form.shown == 'LENGTH' or form.shown == 'SIGNED':
         return _wrong_with_length(word, form)
     if form.shown in ('WHOLE', 'NUMBER'):
@@ -40,11 +46,11 @@ def wrong_with_value(word, form):
     """The same for a property's value, which may be a keyword, a length or a percentage."""
     near = close(word, form.keywords)
     if near:
-        return 'Close to it: %s.' % ', '.join(['`%s`' % known for known in near])
+        return did_you_mean(near)
     if 'LENGTH' not in form.said:
         return None
     if word.endswith('%') and 'PERCENT' not in form.said:
-        return 'A percentage may not stand here.'
+        return 'A percentage is not allowed here.'
     return _wrong_with_length(word, forms.LENGTH)
 
 
@@ -52,50 +58,50 @@ def _wrong_with_length(word, form):
     if re.fullmatch(r'-?[0-9]+(\.[0-9]+)?', word):
         return 'The unit is missing: `%spx`.' % word
     if re.fullmatch(r'-.*px', word) and form is forms.LENGTH:
-        return 'No length is negative here.'
+        return "A length can't be negative here."
     if re.fullmatch(r'-?\.[0-9]+px', word):
-        return 'A digit stands before the point: `%s`.' % word.replace('.', '0.')
+        return 'A digit is required before the point: `%s`.' % word.replace('.', '0.')
     if re.fullmatch(r'-?[0-9]+\.[0-9]{3,}px', word):
-        return 'At most two digits stand behind the point.'
+        return 'At most two digits are allowed after the point.'
     if re.fullmatch(r'-?[0-9]+(\.[0-9]*)?(px|PX|Px)', word):
         if not word.endswith('px'):
-            return 'The unit is `px`.'
-        return 'The greatest length is 1000000px, of up to 7 digits.'
+            return 'The unit is written `px`.'
+        return 'The greatest length is 1000000px, with up to 7 digits.'
     if re.fullmatch(r'-?[0-9.]+%', word):
-        return 'No percentage stands here.'
+        return 'A percentage is not allowed here.'
     if re.fullmatch(r'-?[0-9.]+[a-zA-Z]+', word):
-        return 'The one unit of lengths is `px`.'
+        return 'The only unit of length is `px`.'
     return None
 
 
 def _wrong_with_number(word, form):
     if form is forms.WHOLE:
         if re.fullmatch(r'0[0-9]+', word):
-            return 'No zero stands before another digit: `%s`.' % (word.lstrip('0') or '0')
+            return 'Leading zeros are not allowed: `%s`.' % (word.lstrip('0') or '0')
         if re.fullmatch(r'[0-9]+(ms|s)', word):
-            return 'Milliseconds have no unit: `%s`.' % word.rstrip('ms')
+            return 'Milliseconds are written without a unit: `%s`.' % word.rstrip('ms')
         if word.startswith('-'):
-            return 'No time is negative.'
-        return 'The greatest is 1000000000000.' if word.isdigit() else None
+            return "A time can't be negative."
+        return 'The greatest time is 1000000000000.' if word.isdigit() else None
     if re.fullmatch(r'[0-9.]+%', word):
-        return 'A threshold is a part of 1, and no percentage: half is `0.5`.'
+        return 'A threshold is a fraction of 1, not a percentage: half is `0.5`.'
     if re.fullmatch(r'-?\.[0-9]+', word):
-        return 'A digit stands before the point: `%s`.' % word.replace('.', '0.')
+        return 'A digit is required before the point: `%s`.' % word.replace('.', '0.')
     return None
 
 
 def _wrong_with_name(word, form):
     if word == '-':
-        return '`-` for none may stand only behind `ro NAME DOC`, `io NAME DOC` and `root`.'
+        return '`-`, for none, is allowed only after `ro NAME DOC`, `io NAME DOC` and `root`.'
     if word == '@':
-        return "A document's name stands directly behind it: `@top`."
+        return "A document's name must follow directly: `@top`."
     if word.startswith('@'):
-        return 'A window, `@` and a document, is an operand of `listen` and `unlisten` alone.'
+        return 'A window, `@` and a document, is an operand only of `listen` and `unlisten`.'
     if word.startswith('$'):
-        return 'The one name with `$` is `$target`, and it stands for an element.'
+        return 'The only name with `$` is `$target`, which stands for an element.'
     if len(word) > 32:
         return 'This one has %d bytes.' % len(word)
     if not word[0].isalpha():
         return 'A name begins with a letter.'
     odd = [letter for letter in word if not (letter.isalnum() or letter in '_-')]
-    return 'There is no `%s` in a name.' % odd[0] if odd else None
+    return "A name can't contain `%s`." % odd[0] if odd else None

@@ -9,21 +9,21 @@ from .wording import counted, listed, number
 
 _MOST_SHOWN = 5
 _SAID = {
-    'nodes': 'A page makes at most {} elements in all; those that were removed count too.',
-    'documents': 'A page makes at most {} documents in all, `top` counted; those that ended count too.',
-    'resize-observers': 'A page makes at most {} resize observers in all.',
-    'intersection-observers': 'A page makes at most {} intersection observers in all.',
-    'queries': 'A page makes at most {} query lists in all.',
-    'resize-observations': 'Resize observers hold at most {} targets at one time; `ro-unobserve` and `ro-disconnect` set some '
-                           'free.',
-    'intersection-observations': 'Intersection observers hold at most {} targets at one time; `io-unobserve` and '
-                                 '`io-disconnect` set some free.',
-    'listeners': 'At most {} listeners stand at one time; `unlisten` takes one away.',
-    'timers': 'At most {} timers wait at one time; `clear-timer` takes one away, and so does a tick at which it is due.',
-    'frame-callbacks': 'At most {} frame callbacks wait at one time; a tick calls those of documents that are Active.',
-    'tasks': 'At most {} posted tasks wait at one time; a tick runs them.',
-    'commands': 'A run begins at most {} commands, those of handlers and blocks counted each time.',
-    'depth': 'No element is deeper than {}, a root element having the depth 1.',
+    'nodes': 'At most {} elements can be created in a run, including those that were removed.',
+    'documents': 'At most {} documents can be created in a run, including `top` and those that have ended.',
+    'resize-observers': 'At most {} resize observers can be created in a run.',
+    'intersection-observers': 'At most {} intersection observers can be created in a run.',
+    'queries': 'At most {} query lists can be created in a run.',
+    'resize-observations': 'Together, resize observers can have at most {} targets at a time; `ro-unobserve` and `ro-disconnect` '
+                           'free some.',
+    'intersection-observations': 'Together, intersection observers can have at most {} targets at a time; `io-unobserve` and '
+                                 '`io-disconnect` free some.',
+    'listeners': 'There can be at most {} listeners at a time; `unlisten` removes one.',
+    'timers': 'At most {} timers can be waiting at a time; `clear-timer` removes one, and a tick removes those that are due.',
+    'frame-callbacks': 'At most {} frame callbacks can be waiting at a time; a tick calls those of documents that are Active.',
+    'tasks': 'At most {} posted tasks can be waiting at a time; a tick runs them.',
+    'commands': 'A run can begin at most {} commands, counting those in handlers and blocks every time they begin.',
+    'depth': 'No element can be deeper than {}; a root element is at depth 1.',
 }
 
 
@@ -33,11 +33,12 @@ def explain(told, script, run):
     if isinstance(limit, lexer.TextLimit):
         return _OF_TEXTS[limit.kind](limit, script)
     explained = ['line %d of the script: %s' % (limit.line, script.command(limit.line)),
-                 _SAID[limit.kind].format(number(limit.number)) + ' This would be one more.']
+                 '%s This would be %s.' % (_SAID[limit.kind].format(number(limit.number)),
+                                           'deeper' if limit.kind == 'depth' else 'one more')]
     if limit.kind == 'depth':
         return explained + _path(limit)
     lines = _where(limit.kind, run.page)
-    explained.append('Where the commands went:' if limit.kind == 'commands' else 'Where they come from:')
+    explained.append('Where the commands come from:' if limit.kind == 'commands' else 'Where they come from:')
     return explained + ['  ' + said for said in _by_lines(lines, script)]
 
 
@@ -48,7 +49,7 @@ def beyond(text, script, run):
         return []
     line = int(words[2])
     explained = ['line %d of the script: %s' % (line, script.command(line)), _SAID['commands'].format(number(int(words[3]))),
-                 'Where the first %s went, to which the reference came:' % number(run.page.world.begun)]
+                 'Where the first %s come from, after which the reference program was stopped:' % number(run.page.world.begun)]
     return explained + ['  ' + said for said in _by_lines(run.page.begun_by_line, script)]
 
 
@@ -56,7 +57,7 @@ def _path(limit):
     names = [node.name for node in path(limit.parent)][::-1]
     if len(names) > 6:
         names = names[:3] + ['... %d more ...' % (len(names) - 6)] + names[-3:]
-    return ['The parent `%s` has the depth %d: %s' % (limit.parent.name, sum(1 for _ in path(limit.parent)), ' > '.join(names))]
+    return ['The parent `%s` is at depth %d: %s' % (limit.parent.name, sum(1 for _ in path(limit.parent)), ' > '.join(names))]
 
 
 def _where(kind, page):
@@ -109,7 +110,7 @@ def _by_lines(counts, script):
 
 def _script(limit, script):
     feeds = script.text.count(b'\n', 0, limit.number)
-    return ['A script has at most %s bytes; this one has more. Its first %s bytes have %s.' % (
+    return ['A script can have at most %s bytes; this one has more. Its first %s bytes contain %s.' % (
         number(limit.number), number(limit.number), counted(feeds, 'line feed'))]
 
 
@@ -117,21 +118,21 @@ def _line(limit, script):
     line = script.line(limit.line)
     column = limit.number + 1
     explained = ['line %d, column %d:' % (limit.line, column)] + ['  ' + shown for shown in marked(
-        line, column, 1, 'the byte %s' % number(column))]
-    return explained + ['A line has at most %s bytes before its line feed; this one has %s.' % (
+        line, column, 1, 'byte %s' % number(column))]
+    return explained + ['A line can have at most %s bytes before its line feed; this one has %s.' % (
         number(limit.number), number(len(line)))]
 
 
 def _handlers(limit, script):
     return ['line %d of the script: %s' % (limit.line, script.command(limit.line)),
-            'A script has at most %s handlers; this would be one more. They begin in the lines %d to %d.' % (
+            'A script can have at most %s handlers; this would be one more. They begin on lines %d to %d.' % (
                 number(limit.number), limit.held[0], limit.held[-1])]
 
 
 def _nesting(limit, script):
     return ['line %d of the script: %s' % (limit.line, script.command(limit.line)),
-            'Blocks stand at most %d deep in one another; this would be one deeper. A handler is no block. Open are those of '
-            'the lines %s.' % (limit.number, listed([str(line) for line in limit.held]))]
+            "Blocks can be nested at most %d deep; this would be one deeper. A handler isn't a block. The blocks that are open "
+            'begin on lines %s.' % (limit.number, listed([str(line) for line in limit.held]))]
 
 
 _OF_TEXTS = {'script': _script, 'line': _line, 'handlers': _handlers, 'nesting': _nesting}

@@ -1,10 +1,11 @@
-"""Lines `event error`: each observation that a resize loop left, what changed its size, what would cure it, and the line that
-`--lint` names beforehand.
+"""Lines `event error`: each observation that a resize loop left undelivered, what changed its size, a fix, and the line that
+`--lint` names in advance.
 
 What changed a size is found by a second run of the reference, which looks at the sizes of those targets after each command
 of a loop handler.
 """
 from reference import lint
+from reference.layout import DEVICE
 from reference.page import Page
 from reference.resize_loop import LoopError, ResizeEntry
 
@@ -69,7 +70,7 @@ class Explainer:
 
     def __init__(self, script, commands, told):
         self.script, self.commands, self.seen = script, commands, 0
-        self.cured = {}                   # what brought an error -> the number of the trace's line that has its cure
+        self.cured = {}                   # what caused an error -> the number of the trace's line that has its fix
         errors = [line.about for line in told if isinstance(line.about, LoopError)][:MOST_ERRORS]
         self.count = sum([isinstance(line.about, LoopError) for line in told])
         watched = {(left.observer.name, left.observation.target.name) for error in errors for left in error.skipped}
@@ -83,9 +84,9 @@ class Explainer:
         changes = self.changes[self.seen] if self.seen < len(self.changes) else {}
         self.seen += 1
         document = error.document.name
-        explained = ['The resize loop of `%s` came to the depth %d and left %s: after a round only what stands deeper is '
+        explained = ['The resize loop of `%s` reached depth %d and left %s undelivered: after a round, only deeper targets are '
                      'delivered in the same update.' % (document, error.depth_reached,
-                                                       counted(len(error.skipped), 'observation'))]
+                                                        counted(len(error.skipped), 'observation'))]
         causes = []
         for left in error.skipped:
             found = changes.get((left.observer.name, left.observation.target.name), [])
@@ -94,27 +95,27 @@ class Explainer:
         return explained + self._cure(document, causes, place)
 
     def _cure(self, document, causes, place):
-        """What cures it and what foresaw it, or where both stand already."""
+        """A fix and what predicts the error, or the line of the trace that has both already."""
         key = (document, frozenset(causes))
         if key in self.cured:
-            return ['Cure: as in line %d of this trace.' % self.cured[key]]
+            return ['Fix: see line %d of this trace.' % self.cured[key]]
         self.cured[key] = place
         return (cures.cure(self.script, self.commands, document, causes, self.count)
-                + self._foreseen({line for line, _ in causes}))
+                + self._predicted({line for line, _ in causes}))
 
     def _left(self, left, changes, reached):
         target = left.observation.target
-        explained = ['Left: `%s` observes the %s box of `%s`.' % (left.observer.name, left.observation.box, target.name),
-                     '  depth:      %d, and the loop had come to %d' % (left.depth, reached),
-                     '  told last:  %s' % (size(left.last_reported) if left.told else
-                                           'nothing; a new observation has reported 0 by 0'),
-                     '  size now:   %s' % size(left.size)]
+        explained = ['Undelivered: `%s` observes the %s.' % (left.observer.name, _box(left.observation.box, target.name)),
+                     '  depth:         %d, and the loop had reached %d' % (left.depth, reached),
+                     '  last reported: %s' % (size(left.last_reported) if left.told else
+                                              'nothing; a new observation counts as having reported 0 by 0'),
+                     '  current size:  %s' % size(left.size)]
         if not left.told:
-            explained.append('  observed:   in the loop, by line %d, `%s`%s' % (
+            explained.append('  observed:      in the loop, by line %d, `%s`%s' % (
                 left.observation.line, self.commands.text_of(left.observation.line), self._of(left.observation.line)))
         for line, text, times in _by_lines(changes):
             again = '' if times == 1 else ', %d times' % times
-            explained.append('  changed by: line %d, `%s`%s%s' % (line, text, self._of(line), again))
+            explained.append('  changed by:    line %d, `%s`%s%s' % (line, text, self._of(line), again))
             explained += self._how(line, target)
         return explained
 
@@ -127,7 +128,7 @@ class Explainer:
         command = self.commands.by_line[line]
         named = [operand.value for operand in command.operands if operand.form.shown == 'NODE']
         if command.name in ('set', 'grow', 'load') and named[0] not in (target.name, '$target'):
-            return ['              (the size of `%s` follows from that of `%s`, by an automatic size or a percentage)' % (
+            return ['                 (the size of `%s` depends on that of `%s`, through an automatic size or a percentage)' % (
                 target.name, named[0])]
         return []
 
@@ -138,14 +139,18 @@ class Explainer:
             return [(left.observation.line, None)]
         return [(change.line, change.text) for change in changes]
 
-    def _foreseen(self, lines):
+    def _predicted(self, lines):
         blamed = lint.blamed(self.commands.script, lint.VERDICTS[1][1])
         if not blamed:
             return []
         here = blamed[0] in lines
-        return ['`bin/replay --lint` foresees it: `unquiet %d`%s (docs/LOOPS.md).' % (
-            blamed[0], ', this line' if here else ', the first of %s of loop handlers that may bring it'
+        return ['`bin/replay --lint` predicts it: `unquiet %d` names %s (docs/LOOPS.md).' % (
+            blamed[0], 'this line' if here else 'the first of %s in loop handlers that may cause it'
             % counted(len(blamed), 'command'))]
+
+
+def _box(box, name):
+    return 'content box of `%s` in device pixels' % name if box == DEVICE else '%s box of `%s`' % (box, name)
 
 
 def _by_lines(changes):

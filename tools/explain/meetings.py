@@ -12,7 +12,7 @@ from .wording import ratio, rectangle, size, thresholds
 def explain(told):
     observer, entry = told.about
     if entry.unseen is not None:
-        explained = ['Nothing is seen: %s.' % entry.unseen]
+        explained = ['Nothing is visible: %s.' % entry.unseen]
     else:
         explained = _steps(observer, entry)
     return explained + [_why_now(observer, entry)]
@@ -31,7 +31,7 @@ def _steps(observer, entry):
         explained.append(('  %s  %s  %s' % (whose.ljust(widths[0]), edges.ljust(widths[1]), left_said)).rstrip())
     root = entry.clips[-1]
     if root.rectangle != root.own:
-        explained.append('  (the margin %s moves %s outward)' % (_margins(observer), rectangle(root.own)))
+        explained.append('  (the root margin %s is added to the sides of %s)' % (_margins(observer), rectangle(root.own)))
     return explained
 
 
@@ -39,22 +39,23 @@ def _seen(entry):
     box = entry.clips[0].rectangle
     whole = (box[2] - box[0], box[3] - box[1])
     if not entry.meets:
-        return 'Nothing is seen of `%s`, which is %s:' % (entry.target.name, size(whole))
+        return 'Nothing of `%s`, which is %s, is visible:' % (entry.target.name, size(whole))
     if 0 in whole:
-        return '`%s` is %s, so without area; it meets the root, so its ratio is 1:' % (entry.target.name, size(whole))
+        return '`%s` is %s, so it has no area; it intersects the root, so the intersection ratio is 1:' % (
+            entry.target.name, size(whole))
     cut = (entry.cut[2] - entry.cut[0], entry.cut[3] - entry.cut[1])
-    return 'Of `%s`, which is %s, %s is seen; the ratio is %s:' % (
+    return '`%s` is %s, of which %s is visible; the intersection ratio is %s:' % (
         entry.target.name, size(whole), size(cut), ratio(entry.part, entry.whole))
 
 
 def _whose(clip, entry):
     if clip is entry.clips[0]:
-        return 'box of `%s`' % clip.thing.name
+        return 'target: %s of `%s`' % (clip.box, clip.thing.name)
     if clip is entry.clips[-1]:
-        return 'root: %s of `%s`%s' % (clip.box, clip.thing.name, '' if clip.own == clip.rectangle else ', with its margin')
+        return 'root: %s of `%s`%s' % (clip.box, clip.thing.name, '' if clip.own == clip.rectangle else ', with root margin')
     if isinstance(clip.thing, Document):
-        return 'viewport of `%s`' % clip.thing.name
-    return 'clip: padding box of `%s`%s' % (clip.thing.name, '' if clip.own == clip.rectangle else ', with the scroll margin')
+        return 'clip: viewport of `%s`' % clip.thing.name
+    return 'clip: padding box of `%s`%s' % (clip.thing.name, '' if clip.own == clip.rectangle else ', with scroll margin')
 
 
 def _left(before, left, clip, is_clip):
@@ -62,15 +63,15 @@ def _left(before, left, clip, is_clip):
     if not is_clip:
         return ''
     if left is not None:
-        return 'left is %s' % rectangle(left) if left != before else 'all of it is left'
+        return 'leaves %s' % (rectangle(left) if left != before else 'all of it')
     if before is None:
         return ''
-    return 'nothing is left, %s' % _miss(before, clip.rectangle)
+    return 'leaves nothing: %s' % _miss(before, clip.rectangle)
 
 
 def _miss(box, clip):
     if clip[2] < clip[0] or clip[3] < clip[1]:
-        return 'as its edges cross'
+        return 'its opposite edges cross'
     misses = [(box[0] - clip[2], 'to the right'), (clip[0] - box[2], 'to the left'), (box[1] - clip[3], 'below'),
               (clip[1] - box[3], 'above')]
     distance, where = max(misses)
@@ -91,23 +92,23 @@ def percent(hundredths):
 def _why_now(observer, entry):
     before_index, before_meets = entry.before
     if before_index < 0:
-        return 'Told because it is the first update since it is observed; %s.' % _reached(observer, entry.index)
+        return 'Queued because this is the first update since the target was observed; %s.' % _reached(observer, entry.index)
     changes = []
     if before_meets != entry.meets:
-        changes.append('it meets the root now and did not before' if entry.meets
-                       else 'it does not meet the root any more')
+        changes.append('the target intersects the root now, and did not before' if entry.meets
+                       else 'the target no longer intersects the root')
     if before_index != entry.index and len(observer.thresholds) == 1:
-        changes.append('its threshold %s is %s' % (ratio(observer.thresholds[0], 10000), 'reached now' if entry.index else
-                                                   'not reached any more'))
+        changes.append('the threshold %s is %s' % (ratio(observer.thresholds[0], 10000), 'reached now' if entry.index else
+                                                   'no longer reached'))
     elif before_index != entry.index:
-        changes.append('%s, and before %s' % (_reached(observer, entry.index), 'none was' if not before_index
-                                              else '%d %s' % (before_index, 'was' if before_index == 1 else 'were')))
-    return 'Told because %s.' % '; '.join(changes)
+        changes.append('%s now, and %s before' % (_reached(observer, entry.index), 'none was' if not before_index
+                                                  else '%d %s' % (before_index, 'was' if before_index == 1 else 'were')))
+    return 'Queued because %s.' % '; '.join(changes)
 
 
 def _reached(observer, index):
     """How many thresholds aren't greater than the ratio."""
     known = observer.thresholds
     if len(known) == 1:
-        return 'its threshold %s is %sreached' % (ratio(known[0], 10000), '' if index else 'not ')
-    return '%s of its thresholds %s %s reached' % (index or 'none', thresholds(known), 'are' if index > 1 else 'is')
+        return 'the threshold %s is %sreached' % (ratio(known[0], 10000), '' if index else 'not ')
+    return '%s of the thresholds %s %s reached' % (index or 'none', thresholds(known), 'are' if index > 1 else 'is')

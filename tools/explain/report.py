@@ -12,7 +12,7 @@ from . import faults, limits, loop_errors, meetings, runs, source, throws
 from .wording import counted, number
 
 WIDTH = 100
-NOT_BUILT = "The proved program isn't built; this is the reference's trace. bin/build builds it."
+NOT_BUILT = "The proved program isn't built, so this is the reference program's trace. bin/build builds the proved one."
 MOST_EXPLAINED = 1000
 OUT_OF_TIME = 3
 SECONDS_OF_WATCHING = 20
@@ -53,15 +53,15 @@ def explained(text, run=None):
 def _trusted(trace, proved, run):
     """How many of the lines the reference explains; notes say why not all."""
     if run.failure:
-        trace.notes.append('Nothing is explained: the reference fails with %s, which is a fault of its own.' % run.failure)
+        trace.notes.append('Nothing is explained: the reference program failed with %s, which is a bug in it.' % run.failure)
         return 0
     if not run.ended:
-        trace.notes.append('The reference was stopped after %d seconds of the processor: explained are the first %s of the '
-                           'trace.' % (run.seconds, counted(len(run.told), 'line')))
+        trace.notes.append('The reference program was stopped after %d seconds of processor time, so the explanations cover '
+                           'only the first %s of the trace.' % (run.seconds, counted(len(run.told), 'line')))
     if proved is None:
         return len(run.told)
     if proved.stopped:
-        trace.notes.append('What follows is the beginning of the trace: the proved program %s.' % (
+        trace.notes.append('This is only the beginning of the trace: the proved program %s.' % (
             "didn't end within %d seconds" % runs.SECONDS_OF_THE_PROGRAM if proved.status is None
             else 'ended with status %d' % proved.status))
     got, wanted = proved.lines, [told.text for told in run.told]
@@ -76,12 +76,12 @@ def _trusted(trace, proved, run):
 
 
 def _why_not(proved, run, got, wanted):
-    said = 'Nothing is explained: the reference gives another answer, and one of both is wrong. '
+    said = 'Nothing is explained: the reference program gives a different answer, so one of the two is wrong. '
     if got == wanted:
-        return said + 'The proved program ended with status %d, and the reference with %d.' % (proved.status, run.status)
-    place, one, other = first_difference(got, wanted)
-    return said + 'They differ in line %d of the trace: the program has `%s`, the reference `%s`.' % (
-        place, one or '(nothing more)', other or '(nothing more)')
+        return said + 'The proved program ended with status %d, and the reference program with %d.' % (proved.status, run.status)
+    place, *lines = first_difference(got, wanted)
+    return said + 'They differ from line %d of the trace on: the proved program has %s, and the reference program %s.' % (
+        place, *['`%s`' % line if line else 'nothing more' for line in lines])
 
 
 class _Explainers:
@@ -102,7 +102,7 @@ class _Explainers:
             with time_limit(SECONDS_OF_WATCHING):
                 self.loops = loop_errors.Explainer(self.script, self.commands, self.run.told)
         except TooLong:
-            self.trace.notes.append('The loop errors are not explained: to find what brought them took more than %d seconds.'
+            self.trace.notes.append("The loop errors aren't explained: finding their causes took more than %d seconds."
                                     % SECONDS_OF_WATCHING)
 
     def of(self, told, place):
@@ -129,7 +129,7 @@ class _Explainers:
             explanation = self.of(told, place)
             key = tuple(explanation)
         if key in self.seen and (isinstance(told.about, Throw) or len(key) > 2):
-            return ['As in line %s of this trace.' % number(self.seen[key])]
+            return ['The same as for line %s of this trace.' % number(self.seen[key])]
         self.seen[key] = place
         return explanation
 
@@ -152,8 +152,8 @@ def _explain_lines(trace, written, run, trusted):
         count += bool(explanation)
         trace.add(text, told.line, explanation)
     if left_out:
-        trace.notes.append('Explained are the first %s of the trace that have something to explain; %s more have.' % (
-            counted(MOST_EXPLAINED, 'line'), number(left_out)))
+        trace.notes.append('Of the lines of the trace with something to explain, only the first %s are explained; there are %s '
+                           'more.' % (number(MOST_EXPLAINED), number(left_out)))
 
 
 # --- writing ----------------------------------------------------------------------------------------------------------------

@@ -4,7 +4,7 @@ import unicodedata
 
 from reference.lexer import MOST_SCRIPT
 
-_MARKS = ((b'\xef\xbb\xbf', 'a byte order mark (EF BB BF), which editors put before UTF-8'),
+_MARKS = ((b'\xef\xbb\xbf', 'a byte order mark (EF BB BF), which some editors put before UTF-8'),
           (b'\xff\xfe', 'the byte order mark of UTF-16 (FF FE)'), (b'\xfe\xff', 'the byte order mark of UTF-16 (FE FF)'))
 _ASCII_FOR = {'\u2018': "'", '\u2019': "'", '\u201c': '"', '\u201d': '"', '\u2013': '-', '\u2014': '-', '\u2212': '-',
               '\u00a0': 'a space', '\u200b': 'nothing', '\u2026': '...', '\u00d7': 'x'}
@@ -47,35 +47,36 @@ def notes(text, bad_byte=None):
     found = []
     for mark, called in _MARKS:
         if text.startswith(mark):
-            found.append('The file begins with %s. A script is plain ASCII: save it without the mark.' % called)
+            found.append('The file begins with %s. A script is plain ASCII: save it as such, without the mark.' % called)
     returns = text.count(b'\r')
     if returns and (bad_byte != 13 or b'\n' not in text):
         found.append(_returns_said(text, returns))
     place = next((place for place, byte in enumerate(text[:MOST_SCRIPT]) if byte > 126), None) if not text.isascii() else None
     if place is not None and bad_byte is None:
         line = text.count(b'\n', 0, place) + 1
-        found.append('The file has letters outside ASCII, the first in line %d: %s. Comments too are of ASCII alone.' % (
-            line, letter_said(text, place)))
+        found.append('The file has characters outside ASCII, the first on line %d: byte %02X, %s. Comments must be ASCII too.' % (
+            line, text[place], letter_said(text, place)))
     return found
 
 
 def _returns_said(text, returns):
     before_feeds = text.count(b'\r\n')
     if before_feeds == returns:
-        return ('Its lines end with a carriage return and a line feed, as in Windows. That is allowed; the carriage return '
-                "counts among a line's 4,096 bytes.")
+        return ('The lines of the file end with a carriage return and a line feed, as on Windows. That is allowed; the carriage '
+                "return counts towards a line's 4,096 bytes.")
     if before_feeds == 0 and b'\n' not in text:
-        return 'Its lines end with carriage returns alone. A line ends with a line feed: save the file with Unix line ends.'
+        return ('The lines of the file end with carriage returns only. A line must end with a line feed: save the file with Unix '
+                'line endings.')
     at = next(place for place in range(len(text)) if text[place] == 13 and text[place + 1:place + 2] != b'\n')
-    return ('It has a carriage return that stands in no line end, in line %d. One may stand directly before a line feed only.'
-            % (text.count(b'\n', 0, at) + 1))
+    return ("The file has a carriage return that isn't part of a line ending, on line %d. One is allowed only directly before a "
+            'line feed.' % (text.count(b'\n', 0, at) + 1))
 
 
 def letter_said(text, place):
     """What a byte outside ASCII is a part of: a byte order mark, or a letter in UTF-8 or in Latin-1."""
     for mark, _ in _MARKS:
         if place < len(mark) and text.startswith(mark):
-            return 'the beginning of the byte order mark'
+            return 'part of the byte order mark'
     for start in range(max(0, place - 3), place + 1):
         for length in range(2, 5):
             if start + length <= place:
@@ -87,13 +88,15 @@ def letter_said(text, place):
             if len(letter) == 1:
                 return _named(letter)
     letter = bytes([text[place]]).decode('latin-1')
-    return 'no UTF-8' + ('; in Latin-1 it is %s' % letter if letter.isprintable() else '')
+    return 'not valid UTF-8' + ('; in Latin-1 it is %s' % letter if letter.isprintable() else '')
 
 
 def _named(letter):
     name = unicodedata.name(letter, 'without a name').lower()
-    said = 'of %s (U+%04X, %s)' % (letter, ord(letter), name) if letter.isprintable() else 'of U+%04X, %s' % (ord(letter), name)
+    said = ('part of %s (U+%04X, %s)' % (letter, ord(letter), name) if letter.isprintable()
+            else 'part of U+%04X (%s)' % (ord(letter), name))
     other = _ASCII_FOR.get(letter)
     if other:
-        said += ', for which ASCII has %s' % (other if other.startswith(('a ', 'nothing')) else '`%s`' % other)
+        said += '; %s' % ('leave it out' if other == 'nothing' else 'use %s instead' % (
+            other if other.startswith('a ') else '`%s`' % other))
     return said

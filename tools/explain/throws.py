@@ -8,30 +8,30 @@ from .wording import listed
 
 _LOOKED_UP = 'Operands are looked up from left to right as a command begins: '
 _RULES = {
-    'ReferenceError': _LOOKED_UP + 'a name that is not there, `$target` outside an `each` and an unknown handler throw '
+    'ReferenceError': _LOOKED_UP + 'an unknown name, `$target` outside an `each` or an unknown handler throws '
                       'ReferenceError.',
-    'TypeError': _LOOKED_UP + 'a name of another kind, and a new name that is taken, throw TypeError.',
-    'HierarchyRequestError': 'An element is not put into itself nor into what stands in it, and a document takes one root '
-                             'element (DOM, 4.2.3).',
+    'TypeError': _LOOKED_UP + 'a name of another kind, or a new name that is taken, throws TypeError.',
+    'HierarchyRequestError': "An element can't be inserted into itself or into one of its descendants, and a document can have "
+                             'only one root element (DOM, 4.2.3).',
     'NotFoundError': 'The sibling that `before` names must be a child of the parent that it names (DOM, 4.2.3).',
-    'SyntaxError': 'A margin has up to four parts, each a SIGNED length or a percentage with its unit, also `0px` '
-                   '(Intersection Observer, 2.2). It is read before a scroll margin, which version 2 of the language has, and before '
-                   'the thresholds.',
+    'SyntaxError': 'A margin has up to four parts, each a length or a percentage, optionally with `-` before it; the unit is '
+                   'required, even in `0px` (Intersection Observer, 2.2). It is checked before a scroll margin, which version 2 of '
+                   'the language has, and before the thresholds.',
     'RangeError': None,
 }
 _OWN_RULES = {
-    'grow': 'A command\'s own exceptions come once its operands are looked up: `grow` adds to a width or height in pixels, and '
-            'throws TypeError at another.',
-    'load': 'A command\'s own exceptions come once its operands are looked up: `load` gives an image its natural size, and '
-            'throws TypeError at another element.',
-    'raf': 'A key is free again as its callback is about to be called, or by `cancel-raf`; asking for a taken one throws '
-           'TypeError.',
-    'timer': 'A key is free again as its callback is about to be called, or by `clear-timer`; asking for a taken one throws '
-             'TypeError.',
-    'tick': 'A tick may have the time of the one before it, but none before that.',
-    'io': 'A threshold is a part of 1: from 0 to 1, both included. They are tried after the margin.',
-    'when': '`seen` stands for whether the present intersection entry is intersecting: it has a meaning in an `each` in the '
-            'handler of an intersection observer.',
+    'grow': 'The specific exceptions of a command come after its operands are looked up: `grow` adds to a width or height in '
+            'pixels, and throws TypeError for any other.',
+    'load': 'The specific exceptions of a command come after its operands are looked up: `load` gives an image its natural size, '
+            'and throws TypeError for any other element.',
+    'raf': 'A key is free again just before its callback is called, or after `cancel-raf`; requesting a callback with a key in '
+           'use throws TypeError.',
+    'timer': 'A key is free again just before its callback is called, or after `clear-timer`; setting a timer with a key in use '
+             'throws TypeError.',
+    'tick': 'A tick may have the same time as the one before it, but not an earlier one.',
+    'io': 'A threshold is a fraction of 1: from 0 to 1, both included. Thresholds are checked after the margin.',
+    'when': '`seen` says whether the current intersection entry is intersecting: it has a meaning in an `each` in the handler of '
+            'an intersection observer.',
 }
 
 
@@ -55,7 +55,7 @@ def explain(told, script, commands, said):
 
 
 def _wanted(thrown):
-    return ['Wanted is %s.' % thrown.operand.form.said] if thrown.kind == 'ReferenceError' else []
+    return ['Expected %s.' % thrown.operand.form.said] if thrown.kind == 'ReferenceError' else []
 
 
 def _names(thrown, commands):
@@ -67,16 +67,18 @@ def _names(thrown, commands):
     if operand.form.names == forms.HANDLER_NAME:
         near = hints.close(name, list(commands.script.handlers))
         if not near:
-            return ['Its handlers are %s.' % listed(['`%s`' % known for known in list(commands.script.handlers)[:10]])
-                    if commands.script.handlers else 'It has no handlers.']
-        return ['Close to it: %s.' % listed(['`%s`' % known for known in near], 'or')]
+            handlers = list(commands.script.handlers)[:10]
+            return ['The script has the handler%s %s.' % ('' if len(handlers) == 1 else 's',
+                                                          listed(['`%s`' % known for known in handlers]))
+                    if handlers else 'The script has no handlers.']
+        return [hints.did_you_mean(near)]
     given = commands.given_in.get(name)
     if given:
-        return ['The name is given in line %d, `%s`, which was not carried out by then.' % (given, commands.text_of(given))]
+        return ['Line %d, `%s`, would create it, but had not been carried out by then.' % (given, commands.text_of(given))]
     if name in commands.script.handlers:
-        return ['A handler is called so; the names of handlers are a set of their own.']
+        return ['There is a handler with this name, but the names of handlers are a namespace of their own.']
     near = hints.close(name, ['top'] + list(commands.given_in))
-    return ['Close to it: %s.' % listed(['`%s`' % known for known in near], 'or')] if near else []
+    return [hints.did_you_mean(near)] if near else []
 
 
 def _rule(thrown, command):
@@ -84,7 +86,7 @@ def _rule(thrown, command):
     if thrown.kind == 'RangeError':
         return own
     is_own = command.name in ('grow', 'load', 'raf', 'timer') and thrown.kind == 'TypeError' and (
-        thrown.operand is command.operands[{'load': 0}.get(command.name, 1)]) and ' is wanted' not in thrown.sentence
+        thrown.operand is command.operands[{'load': 0}.get(command.name, 1)]) and ' is expected' not in thrown.sentence
     if is_own or (command.name == 'when' and thrown.operand is None):
         return own
     return _RULES[thrown.kind]
@@ -92,11 +94,11 @@ def _rule(thrown, command):
 
 def _goes_on(handler, outermost, line):
     if handler is not None:
-        return 'The command changed nothing. The handler `%s` ends here; what called it goes on.' % handler.name
+        return 'The command changed nothing. The handler `%s` ends here; what called it continues.' % handler.name
     if outermost is not None and outermost.line != line:
-        return 'The command changed nothing. The `%s` of line %d ends here, and the script goes on behind it.' % (
+        return 'The command changed nothing. The `%s` on line %d ends here, and the script continues after it.' % (
             outermost.name, outermost.line)
-    return 'The command changed nothing, and the script goes on.'
+    return 'The command changed nothing, and the script continues.'
 
 
 class Commands:

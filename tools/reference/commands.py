@@ -71,14 +71,14 @@ def _put(page, command, parent, node, sibling):
     most = page.world.most['depth']
     if isinstance(parent, Element) and node in path(parent):
         raise Throw('HierarchyRequestError', command.operands[1], (
-            "`%s` can't be put into itself" % node.name if node is parent else
-            '`%s` stands in `%s`, so `%s` can\'t be put into it' % (parent.name, node.name, node.name)))
+            "`%s` can't be inserted into itself" % node.name if node is parent else
+            "`%s` is a descendant of `%s`, so `%s` can't be inserted into it" % (parent.name, node.name, node.name)))
     if sibling is not None and (sibling.parent or sibling.root_of) is not parent:
-        raise Throw('NotFoundError', command.operands[2], '`%s` is no child of `%s`: %s' % (
+        raise Throw('NotFoundError', command.operands[2], "`%s` isn't a child of `%s`: %s" % (
             sibling.name, parent.name, _standing(sibling)))
     if isinstance(parent, Document) and parent.root is not None:
         raise Throw('HierarchyRequestError', command.operands[0], (
-            'the document `%s` has a root element, `%s`, and takes no second one' % (parent.name, parent.root.name)))
+            'the document `%s` already has a root element, `%s`' % (parent.name, parent.root.name)))
     above = depth(parent) if isinstance(parent, Element) else 0
     if above + height(node) > most:
         raise Limit('depth', most, parent)
@@ -87,10 +87,10 @@ def _put(page, command, parent, node, sibling):
 
 def _standing(node):
     if node.parent is not None:
-        return 'it stands in `%s`' % node.parent.name
+        return 'its parent is `%s`' % node.parent.name
     if node.root_of is not None:
         return 'it is the root element of `%s`' % node.root_of.name
-    return 'it stands nowhere'
+    return 'it has no parent'
 
 
 def remove(page, command, node):
@@ -107,7 +107,7 @@ def set_(page, command, node, property_, declaration):
 def grow(page, command, node, property_, by):
     old = node.style[property_]
     if old is AUTO or old[0] != 'px':
-        raise Throw('TypeError', command.operands[1], "the %s of `%s` is `%s`; only one in pixels can grow" % (
+        raise Throw('TypeError', command.operands[1], 'the %s of `%s` is `%s`; only one in pixels can grow' % (
             property_, node.name, AUTO if old is AUTO else percent_text(old[1])))
     node.style[property_] = ('px', max(0, min(old[1] + by, GREATEST_WRITTEN)))
     page.world.changed()
@@ -120,7 +120,7 @@ def percent_text(hundredths):
 
 def load(page, command, node, width, height_):
     if node.kind != 'image':
-        raise Throw('TypeError', command.operands[0], '`%s` is a %s, and only an image loads' % (node.name, node.kind))
+        raise Throw('TypeError', command.operands[0], '`%s` is a %s; only an image can be loaded' % (node.name, node.kind))
     node.natural = (width, height_)
     page.world.changed()
 
@@ -163,7 +163,7 @@ def io(page, command, name, document, handler, root, margin, scroll_margin, thre
     scroll_margins = None if scroll_margin is None else _margins(command, 5, scroll_margin, 'scroll margin')
     for place, threshold in enumerate(thresholds):
         if not 0 <= threshold <= 10000:
-            raise Throw('RangeError', _word_of(command.operands[6], place), 'this threshold lies outside 0 to 1')
+            raise Throw('RangeError', _word_of(command.operands[6], place), 'this threshold is outside the range from 0 to 1')
     _check_limit(page, 'intersection-observers', len(world.intersection_observers))
     observer = world.names[name] = IntersectionObserver(name, command.line, document, handler,
                                                         None if root == NONE else root, margins, scroll_margins,
@@ -175,8 +175,8 @@ def _margins(command, place, text, called):
     margins = read_margins(text)
     if margins is None:
         bad = bad_margin_part(text)
-        said = '`%s` is no part of a %s' % (text.split(b' ')[bad].decode('ascii'), called) if bad < 4 else (
-            'a %s has four parts at most' % called)
+        said = "`%s` isn't a valid part of a %s" % (text.split(b' ')[bad].decode('ascii'), called) if bad < 4 else (
+            'a %s has at most four parts' % called)
         raise Throw('SyntaxError', _word_of(command.operands[place], bad), said)
     return margins
 
@@ -254,8 +254,8 @@ def raf(page, command, document, key, handler):
 
 def _check_key(command, held, key, document, called):
     if key in held:
-        raise Throw('TypeError', command.operands[1], 'the key `%s` is in use: %s of the document `%s` has it since line %d' % (
-            key, called, document.name, held[key].line))
+        raise Throw('TypeError', command.operands[1], 'the key `%s` has been in use since line %d, by %s of the document `%s`' % (
+            key, held[key].line, called, document.name))
 
 
 def cancel_raf(page, command, document, key):
@@ -357,9 +357,9 @@ def _attached(page, node):
 
 def _seen(page):
     if page.entry is None:
-        raise Throw('ReferenceError', None, '`seen` asks of the present entry, and outside an `each` there is none')
+        raise Throw('ReferenceError', None, '`seen` is about the current entry, and there is none outside an `each`')
     if not isinstance(page.entry, intersection.Entry):
-        raise Throw('TypeError', None, '`seen` asks of an intersection entry, and the present entry is a resize entry')
+        raise Throw('TypeError', None, '`seen` is about an intersection entry, but the current entry is a resize entry')
     return page.entry.meets
 
 

@@ -14,8 +14,8 @@ DOCUMENT, ELEMENT = 'document', 'element'
 RESIZE_OBSERVER, INTERSECTION_OBSERVER, QUERY_LIST = 'resize observer', 'intersection observer', 'query list'
 NEW_NAME, HANDLER_NAME = 'new', 'handler'
 
-NAME_SHAPE = 'A name is a letter, then letters, digits, `_` or `-`, 32 bytes at most.'
-LENGTH_SHAPE = 'It is up to 7 digits, maybe a point and one or two digits, then `px`; up to 1000000px.'
+NAME_SHAPE = 'A name is a letter followed by letters, digits, `_` or `-`, 32 bytes at most.'
+LENGTH_SHAPE = 'It has up to 7 digits, optionally a point and one or two digits, then `px`; up to 1000000px.'
 
 
 class Form:
@@ -73,15 +73,15 @@ ROOT = Form('NODE', _or_none(_node), 'the root: an element or a document, or `-`
 LISTENED = Form('TARGET', _listened, 'an element, a document or a query list, or `@DOC` for the window of a document',
                 (ELEMENT, DOCUMENT, QUERY_LIST), shape=NAME_SHAPE)
 KEY = _name('a key', None, 'KEY')
-WORD = _name('a word to be said', None)
+WORD = _name('a word to write', None)
 LENGTH = Form('LENGTH', read_length, 'a length', shape=LENGTH_SHAPE)
-SIGNED = Form('SIGNED', read_signed, 'a length, maybe with `-` before it', shape=LENGTH_SHAPE)
+SIGNED = Form('SIGNED', read_signed, 'a length, optionally with `-` before it', shape=LENGTH_SHAPE)
 PERCENT = Form('PERCENT', read_percent, 'a percentage',
-               shape='It is up to 7 digits, maybe a point and one or two digits, then `%`; up to 10000%.')
+               shape='It has up to 7 digits, optionally a point and one or two digits, then `%`; up to 10000%.')
 WHOLE = Form('WHOLE', read_whole, 'a time in milliseconds',
              shape='It is `0`, or digits without a leading zero, up to 1000000000000.')
 NUMBER = Form('NUMBER', read_number, 'a threshold',
-              shape='It is maybe `-`, up to 9 digits, maybe a point and up to four digits.')
+              shape='It has up to 9 digits, optionally a point and up to four digits, and optionally `-` before it.')
 EVENT = keywords(*EVENTS)
 BOX = keywords('content', 'border')
 BOX_OR_DEVICE = keywords('content', 'border', 'device')

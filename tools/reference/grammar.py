@@ -324,20 +324,20 @@ class _Reader:
         elif first == b'end':
             self.end(words)
         elif first == b'tick' and self.open:
-            raise words.fault(Misplaced('A `tick` stands outside handlers and blocks only, and %s.' % self.open_said()))
+            raise words.fault(Misplaced('A `tick` is allowed only outside handlers and blocks, but %s.' % self.open_said()))
         else:
             self.command(words)
 
     def open_said(self):
-        return 'the %s of line %d has no `end` yet' % (self.open[-1].what, self.open[-1].line)
+        return 'the %s on line %d has no `end` yet' % (self.open[-1].what, self.open[-1].line)
 
     def handler(self, words):
         if self.open:
-            raise words.fault(Misplaced('A handler stands in no other handler and in no block, and %s.' % self.open_said()))
+            raise words.fault(Misplaced("A handler can't be inside another handler or a block, but %s." % self.open_said()))
         words.at = 1
         handlers = self.script.handlers
         if words.next() is not None and read_name(words.next()) in handlers:
-            raise words.fault(Misplaced('The handler of line %d has this name; the names of handlers differ.'
+            raise words.fault(Misplaced('The handler on line %d has this name already; the names of handlers must differ.'
                                         % handlers[read_name(words.next())].line))
         name = words.take(HANDLER)
         words.end()
@@ -348,7 +348,7 @@ class _Reader:
 
     def end(self, words):
         if not self.open:
-            raise words.fault(Misplaced('Nothing is open that this `end` could close.'))
+            raise words.fault(Misplaced('There is no open handler or block for this `end` to close.'))
         words.at = 1
         words.end()
         self.open.pop()

@@ -110,14 +110,14 @@ def _why_apart(layout, root, target):
         return None
     root_document = root if isinstance(root, Document) else root.document
     if target.document is not root_document:
-        return "the target is of the document `%s`, and the root of `%s`" % (target.document.name, root_document.name)
+        return 'the target belongs to the document `%s`, and the root to `%s`' % (target.document.name, root_document.name)
     if isinstance(root, Document):
         return None
     for node, called in ((root, 'root'), (target, 'target')):
         if not layout.has_box(node):
             return 'the %s `%s` has no box: %s' % (called, node.name, layout.why_no_box(node))
     if not stands_below(layout, target, root):
-        return "the target `%s` doesn't stand in the root `%s`" % (target.name, root.name)
+        return "the root `%s` isn't on the containing block chain of the target `%s`" % (root.name, target.name)
     return None
 
 

@@ -68,9 +68,9 @@ class Page:
         """Free in the world, and not new a second time in this command."""
         name = operand.value
         if name in self.world.names:
-            raise Throw('TypeError', operand, '`%s` is taken: %s' % (name, self.said_of(self.world.names[name])))
+            raise Throw('TypeError', operand, '`%s` is taken: it is %s' % (name, self.said_of(self.world.names[name])))
         if name in new:
-            raise Throw('TypeError', operand, '`%s` stands twice as a new name in this command' % name)
+            raise Throw('TypeError', operand, '`%s` occurs twice as a new name in this command' % name)
         new.add(name)
         return name
 
@@ -92,13 +92,13 @@ class Page:
             return NONE
         if name == TARGET:
             if self.entry is None:
-                raise Throw('ReferenceError', operand, 'outside an `each` there is no present entry, so `$target` is nothing')
+                raise Throw('ReferenceError', operand, 'outside an `each` there is no current entry, so no `$target`')
             return self.entry.target      # an element, which each such operand may name
         thing = self.world.names.get(name)
         if thing is None:
-            raise Throw('ReferenceError', operand, '`%s` names nothing' % name)
+            raise Throw('ReferenceError', operand, '`%s` is not defined' % name)
         if thing.what not in kinds:
-            raise Throw('TypeError', operand, '`%s` is %s, and %s is wanted' % (
+            raise Throw('TypeError', operand, '`%s` is %s, but %s is expected' % (
                 name, self.said_of(thing), ', '.join([article(kind) for kind in kinds[:-2]]
                                                      + [' or '.join([article(kind) for kind in kinds[-2:]])])))
         return thing
@@ -106,8 +106,8 @@ class Page:
     @staticmethod
     def said_of(thing):
         if thing.line is None:
-            return "the page's document from the start"
-        return '%s since line %d' % (article(getattr(thing, 'kind', thing.what)), thing.line)
+            return "the page's own document"
+        return '%s, created on line %d' % (article(getattr(thing, 'kind', thing.what)), thing.line)
 
     # --- commands -----------------------------------------------------------------------------------------------------------
 

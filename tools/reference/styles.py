@@ -32,7 +32,7 @@ class Values:
         if self.lengths:
             names.append('SIGNED' if self.lengths is read_signed else 'LENGTH')
         if self.percents:
-            names.append('PERCENT, maybe with `-` before it' if self.percents is read_signed_percent else 'PERCENT')
+            names.append('PERCENT, optionally with `-` before it' if self.percents is read_signed_percent else 'PERCENT')
         return names
 
 

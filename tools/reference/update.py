@@ -11,7 +11,7 @@ from .world import ACTIVE, Document
 def tick(page, command, time):
     world = page.world
     if time < world.clock:
-        raise Throw('RangeError', command.operands[0], 'the clock stands at %d, and time goes on only' % world.clock)
+        raise Throw('RangeError', command.operands[0], "the clock is at %d, and time can't go backwards" % world.clock)
     world.clock = time
     page.tell('tick %d' % time)
     _run_timers(page)

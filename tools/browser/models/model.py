@@ -116,7 +116,7 @@ class Model(Commands, Viewports, Rounds, Crossings, Page):
     def tick(self, command, time):
         world = self.world
         if time < world.clock:
-            raise Throw('RangeError', command.operands[0], 'the clock stands at %d, and time goes on only' % world.clock)
+            raise Throw('RangeError', command.operands[0], "the clock is at %d, and time can't go backwards" % world.clock)
         world.clock = time
         self.tell('tick %d' % time)
         update._run_timers(self)
