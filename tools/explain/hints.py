@@ -84,7 +84,7 @@ def _wrong_with_number(word, form):
             return "A time can't be negative."
         return 'The greatest time is 1000000000000.' if word.isdigit() else None
     if re.fullmatch(r'[0-9.]+%', word):
-        return 'A threshold is a fraction of 1, not a percentage: half is `0.5`.'
+        return 'A threshold is a number from 0 to 1, not a percentage: half is `0.5`.'
     if re.fullmatch(r'-?\.[0-9]+', word):
         return 'A digit is required before the point: `%s`.' % word.replace('.', '0.')
     return None

@@ -29,7 +29,7 @@ _OWN_RULES = {
     'timer': 'A key is free again just before its callback is called, or after `clear-timer`; setting a timer with a key in use '
              'throws TypeError.',
     'tick': 'A tick may have the same time as the one before it, but not an earlier one.',
-    'io': 'A threshold is a fraction of 1: from 0 to 1, both included. Thresholds are checked after the margin.',
+    'io': 'A threshold is a number from 0 to 1, both included. Thresholds are checked after the margin.',
     'when': '`seen` says whether the current intersection entry is intersecting: it has a meaning in an `each` in the handler of '
             'an intersection observer.',
 }

@@ -106,7 +106,7 @@ class Page:
     @staticmethod
     def said_of(thing):
         if thing.line is None:
-            return "the page's own document"
+            return "the page's own document, there from the start"
         return '%s, created on line %d' % (article(getattr(thing, 'kind', thing.what)), thing.line)
 
     # --- commands -----------------------------------------------------------------------------------------------------------
