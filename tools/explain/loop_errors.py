@@ -107,9 +107,9 @@ class Explainer:
         target = left.observation.target
         explained = ['Undelivered: `%s` observes the %s.' % (left.observer.name, _box(left.observation.box, target.name)),
                      '  depth:         %d, and the loop had reached %d' % (left.depth, reached),
-                     '  last reported: %s' % (size(left.last_reported) if left.told else
+                     '  last reported: %s' % (_size(left.observation.box, left.last_reported) if left.told else
                                               'nothing; a new observation counts as having reported 0 by 0'),
-                     '  current size:  %s' % size(left.size)]
+                     '  current size:  %s' % _size(left.observation.box, left.size)]
         if not left.told:
             explained.append('  observed:      in the loop, by line %d, `%s`%s' % (
                 left.observation.line, self.commands.text_of(left.observation.line), self._of(left.observation.line)))
@@ -151,6 +151,10 @@ class Explainer:
 
 def _box(box, name):
     return 'content box of `%s` in device pixels' % name if box == DEVICE else '%s box of `%s`' % (box, name)
+
+
+def _size(box, lengths):
+    return '%d by %d' % lengths if box == DEVICE else size(lengths)
 
 
 def _by_lines(changes):

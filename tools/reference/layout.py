@@ -51,9 +51,9 @@ class Layout:
             if node.style['display'] == 'none':
                 return '`%s` has `display: none`' % node.name
             if node.parent is not None and node.parent.kind != 'block':
-                return '`%s` stands in `%s`, which is no block' % (node.name, node.parent.name)
+                return "`%s` is in `%s`, which isn't a block" % (node.name, node.parent.name)
             if node.parent is None and node.root_of is None:
-                return '`%s` stands in no document' % node.name
+                return "`%s` isn't in a document" % node.name
             if node.parent is None and node.root_of.state != ACTIVE:
                 return 'the document `%s` is %s' % (node.root_of.name, node.root_of.state)
             node = node.parent or node.root_of.frame
