@@ -119,7 +119,7 @@ class Panels {
   changed(box, words, other) {
     const parts = [];
     if (!other || words.some(one => SIZE_WORDS.includes(one))) parts.push(sizeOf(box.rectangle));
-    if (words.includes('scrolled')) parts.push(box.scroll ? 'scrolled to ' + scrollText(box.scroll) : 'no longer a scroll container');
+    if (words.includes('scrolled')) parts.push(box.scroll ? 'scrolled to ' + scrollText(box.scroll) : 'not a scroll container');
     if (!other || words.includes('moved')) parts.push('at ' + cornerText(box.rectangle, box.origin));
     if (words.some(one => one.endsWith('view'))) parts.push(seenSaid(box));
     return parts.join(', ');
