@@ -1,4 +1,4 @@
-"""The browsers: how each is started, told a page and a size, and asked for its trace; see docs/BROWSERS.md."""
+"""The browsers: how each is started, given a page and a size, and asked for its trace; see docs/BROWSERS.md."""
 import http.client
 import http.server
 import json
@@ -16,19 +16,19 @@ from scripts import commands_of, read_script
 
 HERE = os.path.dirname(os.path.abspath(__file__))
 FIRST_SIZE = (800, 600)
-WIDEST = 10000000     # pixels that a viewport may have here
-LONGEST = 180         # seconds for an answer of a browser that was started
-STARTING = 60         # seconds for its start
-RATIO_SECONDS = 3     # for a ratio: some a browser can't have
-NO_RATIO = "a ratio that changes is shown by 'tools/browser/run' in chromium and firefox-stepped alone"
-NO_FRAME = ("a viewport that changes, with an implicit root and frames or scroll margins, is shown by 'tools/browser/run' in chromium and "
-            'firefox-stepped alone')
-ATTEMPTS = 12         # of a script in a live browser, where updates came that no tick asked for
+WIDEST = 10000000     # the most pixels of a viewport's side
+LONGEST = 180         # the most seconds for an answer of a running browser
+STARTING = 60         # the most seconds for its start
+RATIO_SECONDS = 3     # the most seconds for a new ratio, which a browser may not support
+NO_RATIO = "a ratio that changes is only shown by 'tools/browser/run' in chromium and firefox-stepped"
+NO_FRAME = ("a viewport that changes, with an implicit root and frames or scroll margins, is only shown by 'tools/browser/run' in chromium "
+            'and firefox-stepped')
+ATTEMPTS = 12         # how often a live browser may run a script if updates come that no tick asked for
 BUSY = 'updates came that no tick asked for, in each of %d attempts' % ATTEMPTS
 
 
 class NoBrowser(Exception):
-    """There is no such browser, or it went away."""
+    """There is no such browser, or it no longer answers."""
 
 
 class NotShown(Exception):
@@ -55,9 +55,9 @@ def ratio_of(args):
 
 
 def planned(script):
-    """The viewport and ratio that a script begins with, its other items, and in what it can run: a window of that size where the viewport
-    doesn't change after that; a frame where no implicit root sees into frames or has a scroll margin, as a frame's document stands for
-    that root there. `steady` says whether the ratio stays."""
+    """The viewport and ratio that a script begins with, its other items, and what it can run in: in a window of that size if the viewport
+    doesn't change later; in a frame if no observer with the implicit root has targets in frames or a scroll margin, since the frame's
+    document takes the place of that root there. `steady` says whether the ratio never changes."""
     items, size, ratio = list(script['items']), list(FIRST_SIZE), 1
     while items and items[0]['op'] in ('viewport', 'ratio'):
         first = items.pop(0)
@@ -89,7 +89,7 @@ def found(name, given, package, *places):
 
 
 class Process:
-    """A program that was started, with a folder of its own; both go as it is closed."""
+    """A running program with a folder of its own; `close` ends the program and removes the folder."""
 
     def __init__(self, words, folder=None, **more):
         self.folder = folder
@@ -111,7 +111,7 @@ class Process:
 
 
 class Pipe:
-    """Chromium's debugging pipe: messages of JSON that end with a zero byte."""
+    """Chromium's debugging pipe: JSON messages, each followed by a zero byte."""
 
     def __init__(self, program, flags):
         to_read, self.to_write = os.pipe()
@@ -119,7 +119,7 @@ class Pipe:
         profile = tempfile.mkdtemp()
 
         def pipes():
-            # The browser reads its commands at 3 and writes its answers at 4.
+            # The browser reads commands from descriptor 3 and writes answers to descriptor 4.
             low, high = os.dup(to_read), os.dup(from_write)
             spare = [os.dup(low), os.dup(high)]
             os.dup2(spare[0], 3)
@@ -130,7 +130,7 @@ class Pipe:
         os.close(to_read)
         os.close(from_write)
         self.number, self.rest, self.session = 0, b'', None
-        self.sized = self.scaled = None     # as the browser was told
+        self.sized = self.scaled = None     # the size and ratio last given to the browser
 
     def close(self):
         for end in (self.to_write, self.from_read):
@@ -165,7 +165,7 @@ class Pipe:
         return self.ask_all((method, params))[0]
 
     def ask_all(self, *requests, until=None):
-        """The answers to requests that are sent at once, as all are there and the event `until` was told."""
+        """Sends requests at once; returns the answers when all have arrived and the event `until` has been received."""
         methods = {self.send(method, **params): method for method, params in requests}
         answers = {}
         while until or len(answers) < len(methods):
@@ -190,7 +190,7 @@ class Pipe:
             self.sized = width, height
 
     def scale(self, ratio):
-        """Of the screen: a `deviceScaleFactor` of the page's metrics would be told to the page, and boxes would be laid out without it."""
+        """Sets the ratio of the screen: a `deviceScaleFactor` in the page's metrics would be reported to the page, but not used in layout."""
         if self.scaled is None:
             self.screen = self.ask('Emulation.getScreenInfos')['screenInfos'][0]
             self.scaled = self.screen['devicePixelRatio']
@@ -211,11 +211,11 @@ HAS_SIZE = 'innerWidth === %d && innerHeight === %d'
 
 
 class Stepped:
-    """A browser that makes an update of the rendering exactly where it is asked for one."""
+    """A browser that runs an update of the rendering exactly when it is asked for one."""
 
     def tick(self):
-        """What the script wants after an update of the page."""
-        # A frame that the browser used to end earlier work is no update of the page: ask again until the page saw one.
+        """Runs an update of the page, and returns what the script wants next."""
+        # A frame that the browser uses to finish earlier work isn't an update of the page: ask again until the page has had one.
         for _ in range(8):
             wants = self.updated()
             if wants:
@@ -223,7 +223,7 @@ class Stepped:
         raise NotShown('an update that the browser skips')
 
     def updated(self):
-        """What is wanted after an update, or null where the page saw none."""
+        """What the script wants after an update, or None if the page had none."""
         self.update()
         return self.value('observersNow.after()', wait=True)
 
@@ -238,7 +238,7 @@ class Stepped:
                          RATIO_SECONDS)
 
     def trace(self, text):
-        """The lines; NotShown where the page can't show all of the script."""
+        """The lines of the trace; raises NotShown if the page can't show all of the script."""
         plan = planned(read_script(text))
         self.blank(plan['size'], plan['ratio'])
         wants = self.begin(plan['script'])
@@ -254,7 +254,7 @@ class Stepped:
 
 
 class SteppedChromium(Stepped):
-    """Chromium by begin-frame control."""
+    """Chromium with begin-frame control."""
 
     def __init__(self, program=None):
         self.pipe = Pipe(found('chromium-headless-shell', program, 'chromium-headless-shell'), CHROMIUM_FLAGS + BEGIN_FRAME_FLAGS)
@@ -294,8 +294,8 @@ class SteppedChromium(Stepped):
         self.await_ratio(ratio)
 
     def blank(self, size, ratio):
-        """A page of its own, in no-quirks mode, whose first update is over."""
-        # No mouse comes into the page: under one the browser lays the page out anew, at a time of its own, after a frame was moved.
+        """Opens a new page in no-quirks mode, and waits for its first update."""
+        # No mouse pointer is in the page: if one is, the browser lays the page out again, at a time of its own, after a frame is moved.
         self.pipe.ask_all(('Input.setIgnoreInputEvents', {'ignore': True}), ('Page.navigate', {'url': 'data:text/html,<!doctype html>'}),
                           until='Page.loadEventFired')
         self.pipe.size(*size)
@@ -306,7 +306,7 @@ class SteppedChromium(Stepped):
             self.update()
 
     def begin(self, script):
-        """What the script wants first. The tool's own part is a text that stays the same, which the browser reads once."""
+        """What the script wants first. The tool's own code is always the same text, which the browser parses only once."""
         run = 'window.observersNow = observersRun(%s, window, {}); observersNow.step()' % json.dumps(script)
         _, page, wants = self.pipe.ask_all(('Input.setIgnoreInputEvents', {'ignore': False}), self.asked(self.page + '\n0'),
                                            self.asked(run, wait=True))
@@ -315,7 +315,7 @@ class SteppedChromium(Stepped):
 
 
 class Loopback(http.server.ThreadingHTTPServer):
-    """Hands out one page after the other at 127.0.0.1, and takes their answers."""
+    """Serves one page after another at 127.0.0.1, and receives their answers."""
     daemon_threads = True
 
     def __init__(self):
@@ -361,7 +361,7 @@ class Exchange(http.server.BaseHTTPRequestHandler):
             self.end_headers()
             self.wfile.write(data)
         except (BrokenPipeError, ConnectionResetError):
-            pass     # A browser that ends, or goes to another page, doesn't wait for the answer.
+            pass     # A browser that ends or leaves the page doesn't wait for the answer.
 
     def log_message(self, *words):
         pass
@@ -386,12 +386,12 @@ async function observersAnswer(script, size, inWindow) {
 
 
 def in_json(value):
-    """JSON that may stand in a script element."""
+    """JSON that is safe inside a script element."""
     return json.dumps(value).replace('<', '\\u003c')
 
 
 class Live:
-    """A browser that makes its updates by itself: it is told a page and a size, and the page sends its trace."""
+    """A browser that schedules its updates itself: it is given a page and a size, and the page sends its trace."""
 
     def __init__(self, program=None):
         self.parts = {'page': part('page.js'), 'live': part('live.js')}
@@ -404,7 +404,7 @@ class Live:
             raise
 
     def hold(self, thing):
-        """What goes as the browser is closed, the last one first."""
+        """Registers something to be closed with the browser, the last one first."""
         self.held.append(thing)
         return thing
 
@@ -464,12 +464,12 @@ FIREFOX_PREFERENCES = {
     'browser.startup.homepage_override.mstone': 'ignore', 'datareporting.policy.dataSubmissionEnabled': False,
     'app.update.auto': False, 'network.captive-portal-service.enabled': False, 'network.connectivity-service.enabled': False,
     'ui.useOverlayScrollbars': 1, 'browser.sessionhistory.max_total_viewers': 0,
-    # What a browser's own window does as a page is loaded costs more than the page.
+    # What a browser's own window does when a page is loaded takes more time than the page.
     'ui.prefersReducedMotion': 1, 'browser.chrome.site_icons': False, 'reader.parse-on-load.enabled': False,
     'browser.translations.enable': False, 'places.history.enabled': False, 'browser.sessionstore.interval': 100000000,
     'dom.ipc.processPrelaunch.enabled': False,
 }
-# The page's part of the window gets the size, as an engine's own tools do it.
+# Gives the content area of the window the size, as the engine's own tools do.
 FIREFOX_SIZE = '''const [width, height] = arguments, style = gBrowser.selectedBrowser.style;
 for (const limit of ['', 'min-', 'max-']) {
   style.setProperty(limit + 'width', width + 'px');
@@ -479,7 +479,7 @@ FIREFOX_RATIO = "Services.prefs.setCharPref('layout.css.devPixelsPerPx', String(
 
 
 class Firefox(Live):
-    """Firefox over Marionette: messages of JSON with their length before them."""
+    """Firefox over Marionette: JSON messages, each preceded by its length."""
     ratio = 1
 
     def start(self, program):
@@ -550,14 +550,14 @@ addEventListener('load', () => { fetch(location.href, { method: 'POST', body: '"
 
 
 class SteppedFirefox(Stepped, Firefox):
-    """Firefox with its refresh driver under control, as its own tests have it."""
+    """Firefox with its refresh driver under control, as in its own tests."""
     sized = None
 
     def value(self, expression, wait=False):
         return self.ask('WebDriver:ExecuteScript', script='return ' + expression, args=[])['value']
 
     def update(self, then='null'):
-        """Makes an update, and answers what an expression says of the page after it."""
+        """Runs an update, and returns the value of an expression in the page after it."""
         script = 'window.windowUtils.advanceTimeAndRefresh(16); return ' + then
         return self.ask('WebDriver:ExecuteScript', script=script, args=[], sandbox='system')['value']
 
@@ -578,7 +578,7 @@ class SteppedFirefox(Stepped, Firefox):
         self.await_value(HAS_SIZE % self.sized, 'a window of %d by %d' % self.sized)
 
     def blank(self, size, ratio):
-        """A page of its own, whose first updates are over."""
+        """Opens a new page, and waits for its first updates."""
         self.open(self.server.offer(STEPPED_PAGE % self.parts['page']))
         self.server.answer()
         if not self.update('%s && %s' % (HAS_SIZE % tuple(size), HAS_RATIO % ratio)):
@@ -596,7 +596,7 @@ MINI_BROWSER = '/usr/lib/x86_64-linux-gnu/webkit2gtk-4.1/MiniBrowser'
 
 
 class WebKit(Live):
-    """WebKitGTK's small browser over its driver, on a display that nobody sees."""
+    """WebKitGTK's MiniBrowser over WebDriver, on a virtual display."""
     session = None
 
     def start(self, program):
@@ -625,7 +625,7 @@ class WebKit(Live):
         raise NoBrowser("WebKitWebDriver doesn't answer")
 
     def measured(self):
-        """How much wider and higher the window is than the page in it, as soon as both have the size that was asked for."""
+        """How much wider and higher the window is than its page, once both have the size that was asked for."""
         for _ in range(200):
             frame = self.ask('POST', self.session + '/window/rect', {'width': FIRST_SIZE[0], 'height': FIRST_SIZE[1]})
             inner = self.ask('POST', self.session + '/execute/sync', {'script': 'return [innerWidth, innerHeight]', 'args': []})

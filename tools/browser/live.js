@@ -1,8 +1,8 @@
-// Runs a script by the updates that a browser makes of itself, in a window that is handed in or in a frame of known size.
-// The answer is { lines, stop, disturbed }: the trace; null, or why and a sentence where the page can't show all of the script;
+// Runs a script with the updates that a browser schedules itself, in a given window or in a frame of known size.
+// The answer is { lines, stop, disturbed }: the trace; null, or a word and a sentence if the page can't show all of the script;
 // and whether an update came that no tick asked for.
 
-// Turns of the event loop, for what a browser tells by timers of its own.
+// Turns of the event loop, for what a browser reports by timers of its own.
 async function observersTurns() {
   for (let turn = 0; turn < 2; turn++) await new Promise(done => setTimeout(done, 0));
 }
@@ -21,7 +21,7 @@ async function observersLive(script, window, setting) {
   }
 }
 
-// An empty page in no-quirks mode, whose first updates are over.
+// Waits for the first updates of an empty page in no-quirks mode.
 async function observersSettled(window) {
   for (let update = 0; update < 2; update++) await new Promise(done => window.requestAnimationFrame(done));
   await observersTurns();
@@ -37,8 +37,8 @@ async function observersInFrame(script, size, holder) {
   const resize = (width, height) => {
     frame.style.width = width + 'px';
     frame.style.height = height + 'px';
-    // Whoever reads a size has the page around the frame laid out, and so the frame knows its size before the update. Firefox takes
-    // it as the frame's own size is read; in WebKit that reading would have query lists evaluated without an event.
+    // Reading a size forces layout of the page around the frame, so that the frame knows its size before the update. Firefox needs the
+    // frame's own size to be read; in WebKit that would evaluate media query lists without an event.
     frame.getBoundingClientRect();
     if ('mozInnerScreenX' in window && frame.contentWindow) frame.contentWindow.innerWidth;
   };
@@ -54,15 +54,15 @@ async function observersInFrame(script, size, holder) {
   }
 }
 
-// In a window of its own, where the browser opens one of that size.
+// In a new window, if the browser opens one of that size.
 async function observersInWindow(script, size, opener) {
   const opened = opener.open('about:blank', '_blank', `popup,width=${size[0]},height=${size[1]}`);
-  if (!opened) return { lines: [], stop: ['not-shown', "it opens a window for it only where 'Run again' is pressed"], disturbed: false };
+  if (!opened) return { lines: [], stop: ['not-shown', "it opens a window for it only after 'Run again' is pressed"], disturbed: false };
   try {
     observersEmptied(opened);
     await observersSettled(opened);
     if (opened.innerWidth !== size[0] || opened.innerHeight !== size[1]) {
-      const sentence = `the browser opened a window of ${opened.innerWidth} by ${opened.innerHeight}, and not of ${size.join(' by ')}`;
+      const sentence = `the browser opened a window of ${opened.innerWidth} by ${opened.innerHeight} instead of ${size.join(' by ')}`;
       return { lines: [], stop: ['not-shown', sentence], disturbed: false };
     }
     return await observersLive(script, opened, {});
@@ -71,7 +71,7 @@ async function observersInWindow(script, size, opener) {
   }
 }
 
-// Once more where an update came in between, as on a busy machine.
+// Runs again if an update came in between, as on a busy machine.
 async function observersCalm(attempt) {
   let answer;
   for (let left = 10; left > 0; left--) {

@@ -1,7 +1,7 @@
-// Runs a script in a window. `script` is what scripts.py read: items with their lines' numbers; its `ratio` says how many device pixels
-// go on a pixel as it begins. Each command is the call of the
-// DOM or of an observer that it names; what callbacks are told is written as trace lines, in the order in which they are told.
-// `setting` has `live` where the browser makes its updates by itself, and `resize` where the window is a frame of known size.
+// Runs a script in a window. `script` is what scripts.py has read: items with their line numbers; its `ratio` is the initial device pixel
+// ratio. Each command is the call of the DOM or of an observer that it names; what callbacks are given is written as trace lines, in the
+// order in which it is given. `setting` has `live` if the browser schedules its updates itself, and `resize` if the window is a frame of
+// known size.
 function observersRun(script, window, setting) {
   'use strict';
   const document = window.document;
@@ -12,7 +12,7 @@ function observersRun(script, window, setting) {
   const observers = [];            // resize observers in order of creation
   const timers = [];
   const due = [];                  // posted tasks that wait for the update
-  const listeners = new Map();     // for each target one function per kind and handler, so that the browser sees doubles
+  const listeners = new Map();     // for each target one function per event and handler, so that the browser recognizes duplicates
   let clock = 0, inUpdate = false, waiting = 0, round = null, next = 0, ratio = script.ratio || 1;
 
   class Thrown extends Error { constructor(kind) { super(kind); this.kind = kind; } }
@@ -28,7 +28,7 @@ function observersRun(script, window, setting) {
     if (whole === 0 && rest === 0) return '0';
     return sign + whole + (rest ? '.' + String(rest).padStart(6, '0').replace(/0+$/, '') : '');
   }
-  // `left` is the lesser end of a rectangle that crosses itself; some engines don't have `x`.
+  // If the edges of a rectangle cross, `left` is the lesser of the two; some engines don't have `x`.
   const rect = r => r ? ['x' in r ? r.x : r.left, 'y' in r ? r.y : r.top, r.width, r.height].map(px).join(' ') : 'null';
   const area = r => BigInt(Math.round(r.width * UNITS)) * BigInt(Math.round(r.height * UNITS));
   function share(entry) {
@@ -70,10 +70,10 @@ function observersRun(script, window, setting) {
     doc.state = 'active';
     doc.document = document;
     doc.window = document.defaultView;
-    // Callbacks are made in the document's realm, as those of its own scripts are: a browser asks for the realm's document.
+    // Callbacks are created in the document's realm, like those of its own scripts, since a browser uses the realm's document.
     doc.made = doc.window.Function('run', 'return function (...told) { return run(...told); };');
     document.observersName = doc.name;
-    // The page of a new frame is in quirks mode, where a root element fills the viewport; a document type ends that.
+    // The page of a new frame is in quirks mode, where a root element fills the viewport, unless it has a document type.
     if (document.compatMode !== 'CSS1Compat') {
       document.open();
       document.write('<!doctype html>');
@@ -91,7 +91,7 @@ function observersRun(script, window, setting) {
     else if (event.type === 'scroll') write(`event scroll ${nameOf(event.target)}`);
     else if (event.type === 'error' && event.target === doc.window) write(`event error @${doc.name} ${messageOf(event)}`);
   }
-  // A browser may keep messages from a page that is opened as a file; only one can come here.
+  // A browser may hide messages from a page that is opened as a file; only one message is possible here.
   function messageOf(event) {
     const kept = event.message === 'Script error.' && location.protocol === 'file:';
     return kept ? 'ResizeObserver loop completed with undelivered notifications.' : event.message;
@@ -111,21 +111,21 @@ function observersRun(script, window, setting) {
     ';scrollbar-width:none';
   function make(name, kind, doc, tag) {
     const element = doc.document.createElement(tag);
-    // WebKit shows no frame of an address that two frames around it have.
+    // WebKit doesn't show a frame with the same address as two frames around it.
     if (kind === 'frame' && navigator.vendor.startsWith('Apple')) element.src = 'about:blank?' + names.size;
     const spacer = doc.document.createElement('i');
     spacer.style.cssText = 'display:flow-root;height:0;margin:0';
     element.style.cssText = base[kind] + common;
     element.observersName = name;
-    // An event at an element that stands nowhere by then doesn't come to a window.
+    // An event at an element that is no longer in a document doesn't reach a window.
     element.addEventListener('scroll', event => { if (!windowOf(element)) fired(doc, event); });
     const made = { what: 'node', name, kind, element, spacer, style: { width: 'auto', height: 'auto' } };
     names.set(name, made);
     return made;
   }
   const windowOf = element => element.isConnected ? element.ownerDocument.defaultView : null;
-  // A spacer of no height stands behind each child, so that margins of neighbours don't collapse. A comment behind a root element
-  // has WebKit show an element whose style was set as it came; it shows none of it otherwise.
+  // A spacer without height follows each child, so that margins of siblings don't collapse. A comment follows each root element, since
+  // WebKit otherwise doesn't show one that is inserted and styled at once.
   function space(made) {
     const parent = made.element.parentNode;
     if (parent && parent.nodeType === 1) return parent.insertBefore(made.spacer, made.element.nextSibling);
@@ -135,7 +135,7 @@ function observersRun(script, window, setting) {
   const inner = parent => parent.what === 'doc' ? shown(parent).document : parent.element;
   const natural = (width, height) => `${width} ${height}`;
 
-  // ---- resize observers: the browser doesn't tell where a round ends; it is told apart by what was active as the round began ----
+  // ---- resize observers: the browser doesn't say where a round ends; that is inferred from what was active as the round began ----
   const depth = element => { let d = 0; for (let e = element; e && e.nodeType === 1; e = e.parentNode) d++; return d; };
   function sizeOf(element, box) {
     const r = element.getBoundingClientRect();
@@ -145,22 +145,22 @@ function observersRun(script, window, setting) {
     const sum = (...list) => list.reduce((all, p) => all + parseFloat(style[p]), 0);
     const size = [r.width - sum('paddingLeft', 'paddingRight', 'borderLeftWidth', 'borderRightWidth'),
       r.height - sum('paddingTop', 'paddingBottom', 'borderTopWidth', 'borderBottomWidth')];
-    // Engines count device pixels between the nearest edges.
+    // Engines count device pixels between the edges, each rounded to the nearest device pixel.
     const device = (start, side) => Math.round((start + side) * ratio) - Math.round(start * ratio);
     return (box === 'device' ? [device(r.left, size[0]), device(r.top, size[1])] : size).join(' ');
   }
-  // Both numbers of a box that an entry tells.
+  // The inline and block size of a box in an entry.
   const told = box => box[0].inlineSize + ' ' + box[0].blockSize;
   // Two ways to read a size may differ by less than an engine's smallest length.
   function alike(one, two) {
     const [a, b] = [one.split(' '), two.split(' ')];
     return a.every((side, at) => Math.abs(side - b[at]) < 0.001);
   }
-  // Of version 2: the content box in device pixels.
+  // In version 2: the content box in device pixels.
   function deviceSize(entry) {
     if (!entry.devicePixelContentBoxSize) throw new NotShown('resize entries with device pixels, which this browser lacks');
     const has = window.devicePixelRatio;
-    if (Math.abs(has - ratio) > 1e-6) throw new NotShown(`a ratio of ${100 * ratio}%, where this browser has one of ${100 * has}%`);
+    if (Math.abs(has - ratio) > 1e-6) throw new NotShown(`a ratio of ${100 * ratio}%, as this browser has one of ${100 * has}%`);
     return told(entry.devicePixelContentBoxSize);
   }
   function gathered(doc, least) {
@@ -217,7 +217,7 @@ function observersRun(script, window, setting) {
     if (!commands || api.stopped) return;
     guarded(() => body(commands, told, null));
   }
-  // Runs commands up to the first that throws.
+  // Runs commands, up to the first that throws.
   function body(commands, told, entry) {
     for (const c of commands) if (!begun(c, told, entry)) return false;
     return true;
@@ -236,7 +236,7 @@ function observersRun(script, window, setting) {
       return false;
     }
   }
-  // What an event is listened for at, with the document whose realm a listener is made in.
+  // The target at which to listen for an event, with the document in whose realm the listener is created.
   function aim(word, entry) {
     if (word[0] === '@') {
       const doc = shown(named(word.slice(1), 'doc'));
@@ -254,7 +254,7 @@ function observersRun(script, window, setting) {
     if (!known.has(key)) known.set(key, doc.made(() => call(found, null)));
     at.addEventListener(kind, known.get(key));
   }
-  // One that is added once more is made anew, as its target may be in another document by then.
+  // If the listener is added again, it is created anew, because its target may be in another document by then.
   function unlisten(word, kind, name, entry) {
     const { at } = aim(word, entry), key = kind + ' ' + name;
     handler(name);
@@ -274,8 +274,8 @@ function observersRun(script, window, setting) {
     if (told.kind !== 'intersect') throw new Thrown('TypeError');
     return entry.isIntersecting;
   }
-  // All go through one port, as messages of several ports have no order among one another; and all that wait run with the first, as
-  // an engine may have other tasks come between two messages.
+  // All tasks use one port, because messages of different ports have no order among each other; and all waiting tasks run with the first,
+  // because an engine may run other tasks between two messages.
   const channel = new MessageChannel(), posted = [];
   channel.port1.onmessage = () => { waiting--; for (const task of posted.splice(0)) runTask(task); };
   function post(task) {
@@ -373,7 +373,7 @@ function observersRun(script, window, setting) {
     io([name, doc, to, , root, ...rest], entry) {
       fresh(name);
       const home = shown(named(doc, 'doc')), commandsTo = handler(to);
-      // In a frame of known size its document stands for the implicit root, which would be the window around it.
+      // In a frame of known size, its document takes the place of the implicit root, which would be the window around it.
       const implicit = setting.resize ? document : null;
       const at = root === '-' ? implicit : inner(node(root, entry, 'node', 'doc'));
       const cut = rest.indexOf('threshold'), scroll = script.version === 1 ? -1 : rest.slice(0, cut).indexOf('scroll');
@@ -468,7 +468,7 @@ function observersRun(script, window, setting) {
       write(`timer ${t.doc.name} ${t.key}`);
       call(t.handler, null);
     }
-    // Asked for in each tick, so that there is an update; what was posted before it stands before what the update queues.
+    // Requested in each tick, so that there is an update; tasks posted before it are queued before those that the update queues.
     api.update = new Promise(done => window.requestAnimationFrame(() => {
       for (const task of due.splice(0)) post(task);
       inUpdate = api.updated = true;
@@ -478,10 +478,10 @@ function observersRun(script, window, setting) {
     return true;
   }
 
-  // ---- updates that no tick asked for: they do no harm where they tell nothing, and the run is disturbed where they do ----
+  // ---- updates that no tick asked for: they do no harm if nothing is reported in them; otherwise the run is disturbed ----
   let ours = null, over = false, seen = [], watch = null, extra = Infinity;
   const frameTime = () => document.timeline.currentTime;
-  // Called in each callback of an update: whether it is the tick's own one is known once the tick's frame callback has come.
+  // Called in each callback of an update: whether it is the tick's update is known once the tick's frame callback has run.
   function noteUpdate() {
     if (!setting.live) return;
     if (ours === null) seen.push(frameTime());
@@ -489,9 +489,9 @@ function observersRun(script, window, setting) {
   }
   function ourUpdate() {
     ours = frameTime();
-    // An engine may tell the time of day until its frame callbacks come; another update is a sixtieth of a second away.
+    // Until its frame callbacks run, an engine may give the current time; another update is a sixtieth of a second away.
     if (seen.some(time => Math.abs(time - ours) > 14)) api.disturbed = true;
-    // An update is one task: what comes after this message is another one's, though an engine may still tell the time of the last.
+    // An update is one task: what comes after this message belongs to another one, even if an engine still gives the time of this one.
     const mine = ours;
     const end = new MessageChannel();
     end.port1.onmessage = () => { end.port1.close(); over = over || ours === mine; };
@@ -507,12 +507,12 @@ function observersRun(script, window, setting) {
   }
   function noteEntries(o, entries) {
     if (!setting.live) return;
-    // Times are of whole milliseconds, so between windows up to two may be lacking; another update is a sixtieth of a second away.
+    // Times are whole milliseconds, so those of two windows may differ by up to two; another update is a sixtieth of a second away.
     const shift = o.doc.window.performance.timeOrigin - window.performance.timeOrigin;
     if (entries.some(e => e.time + shift > extra - 7)) api.disturbed = true;
   }
 
-  // Waits until no task is left.
+  // Waits until no task is waiting.
   async function quiet() {
     for (let turns = 0; turns < 2 && !api.stopped;) {
       await new Promise(done => { const c = new MessageChannel(); c.port1.onmessage = () => { c.port1.close(); done(); }; c.port2.postMessage(0); });
@@ -525,8 +525,8 @@ function observersRun(script, window, setting) {
     update: null,
     disturbed: false,
     lines,
-    // Runs items up to the next thing that only the tool can do. A new page in a frame lays itself out in a task of its own: before
-    // an update there is time for it.
+    // Runs items up to the next thing that only the tool can do. A new page in a frame is laid out in a task of its own, which is given
+    // time before an update.
     async step() {
       guarded(() => { while (next < script.items.length && !api.stopped) {
         const c = script.items[next++];
@@ -543,7 +543,7 @@ function observersRun(script, window, setting) {
       endRound();
       inUpdate = false;
     },
-    // What is wanted after an update, as all that it queued is over; null where the page saw none.
+    // What the script wants after an update and all that it queued; null if the page had no update.
     async after() {
       if (!api.updated) return null;
       await api.drained();

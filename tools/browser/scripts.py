@@ -1,4 +1,4 @@
-"""Reads scripts for a page by the grammar of tools/reference, so that nothing that is no script comes to a browser."""
+"""Reads scripts for a page with the grammar of tools/reference, so that only valid scripts get to a browser."""
 import os
 import sys
 
@@ -8,11 +8,11 @@ from reference import grammar, lexer
 
 
 class Refused(Exception):
-    """The text is no script."""
+    """The text isn't a script, or can't be read."""
 
 
 def operands(line, name):
-    """The words behind a command's name; a media query is one of them, as it is written."""
+    """The words after a command's name; a media query list, as it is written, is one of them."""
     words = lexer.words_of(line)
     if name == 'media':
         start, last = words[3][0], words[-1]
@@ -21,7 +21,7 @@ def operands(line, name):
 
 
 def items(commands, lines):
-    """Commands as the page takes them, those of a block in the one that it belongs to."""
+    """Commands in the form for the page, those of a block inside the command that it belongs to."""
     made = []
     for command in commands:
         made.append({'op': command.name, 'args': operands(lines[command.line], command.name), 'line': command.line})
@@ -31,19 +31,19 @@ def items(commands, lines):
 
 
 def read_script(text):
-    """The items and handlers of a script, as the page takes them."""
+    """The items and handlers of a script, in the form for the page."""
     source = text.encode('latin-1')
     try:
         script = grammar.parse(source)
     except (lexer.Fault, lexer.TextLimit) as refused:
-        raise Refused("'%s'; bin/explain says what is wrong there" % refused.text())
+        raise Refused("'%s'; bin/explain explains it" % refused.text())
     lines = {number: line for number, line, _ in lexer.lines_of(source)}
     return {'version': script.version, 'items': items(script.commands, lines),
             'handlers': {name: items(handler.commands, lines) for name, handler in script.handlers.items()}}
 
 
 def commands_of(script):
-    """All commands of a script, those in handlers and blocks too."""
+    """All commands of a script, including those in handlers and blocks."""
     waiting = [script['items']] + list(script['handlers'].values())
     while waiting:
         for command in waiting.pop():
@@ -52,7 +52,7 @@ def commands_of(script):
 
 
 def read_file(path):
-    """A script's text, or Refused where there is none to read."""
+    """A script's text; raises Refused if it can't be read."""
     try:
         with open(path, encoding='latin-1', newline='') as file:
             return file.read()

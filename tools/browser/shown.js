@@ -1,7 +1,7 @@
-// Shows a script's trace by the rules and this browser's one beside each other. The result is the JSON of the element `result`, the
+// Shows a script's trace by the rules and this browser's trace side by side. The result is the JSON in the element `result`, the
 // attribute `data-result` of the page's root element (same, differs, not-shown, failed), and what observersResult resolves to.
 
-// Pairs of lines with a mark where they differ: + this browser alone, - the rules alone, ! another line.
+// Pairs of lines with a mark if they differ: '+' only in this browser, '-' only by the rules, '!' different lines.
 function observersBeside(left, right) {
   let head = 0, tail = 0;
   const least = Math.min(left.length, right.length);
@@ -14,7 +14,7 @@ function observersBeside(left, right) {
     ...same(left.slice(left.length - tail)),
   ];
 }
-// Along a longest list of lines that both have in this order; of long traces line by line.
+// Along a longest common subsequence of lines; for long traces, line by line.
 function observersPaired(left, right) {
   const rows = [], common = left.length * right.length < 4e6 ? observersCommon(left, right) : null;
   let at = 0, to = 0;
@@ -55,7 +55,7 @@ async function observersAnswer({ script, size, frame }) {
   try {
     const answer = await observersCalm(attempt);
     if (answer.stop) return ['not-shown', answer.stop[1], answer.lines];
-    if (answer.disturbed) return ['not-shown', 'updates came that no tick asked for', answer.lines];
+    if (answer.disturbed) return ['not-shown', 'it ran updates that no tick asked for', answer.lines];
     return ['', '', answer.lines];
   } catch (e) {
     return ['failed', String(e), []];
@@ -74,8 +74,8 @@ async function observersShown(plan, rules) {
     return row;
   }));
   const sentences = {
-    same: 'This browser tells what the rules say.', differs: `This browser differs from the rules in ${differ} of ${rows.length} lines.`,
-    'not-shown': `This browser doesn't show the script: ${why}.`, failed: `The page failed: ${why}.`,
+    same: 'This browser gives the trace of the rules.', differs: `This browser differs from the rules in ${differ} of ${rows.length} lines.`,
+    'not-shown': `This browser can't show the script: ${why}.`, failed: `The page failed: ${why}.`,
   };
   document.getElementById('verdict').textContent = sentences[result];
   document.documentElement.dataset.result = result;

@@ -1,4 +1,4 @@
-"""Traces beside each other: where the rules' one comes from, and what differs."""
+"""The rules' trace of a script, and the comparison of two traces."""
 import difflib
 import os
 import shlex
@@ -14,11 +14,11 @@ class NoRules(Exception):
 
 
 class NoCommand(Exception):
-    """The command that was named can't be run."""
+    """The command can't be run."""
 
 
 def trace_of(command, path):
-    """What a command writes of a script; a trace may end with a fault or a limit, as its status says."""
+    """The lines that a command writes for a script; its status may be that of a syntax error or a limit."""
     try:
         with open(path, 'rb') as script:
             done = subprocess.run(command, stdin=script, stdout=subprocess.PIPE)
@@ -30,7 +30,7 @@ def trace_of(command, path):
 
 
 def stored(path):
-    """The trace that stands beside a script, or None."""
+    """The trace stored next to a script, or None."""
     base = os.path.splitext(path)[0]
     for name in (base + '.trace', base + '.rules'):
         if os.path.exists(name):
@@ -40,19 +40,19 @@ def stored(path):
 
 
 def by_rules(path, command=None):
-    """The rules' trace of a script: by the user's command, by the program where it is built, else the stored one."""
+    """The rules' trace of a script: from the user's command if there is one, else from the program if it is built, else the stored one."""
     if command:
         return trace_of(shlex.split(command), path)
     if os.access(PROGRAM, os.X_OK):
         return trace_of([PROGRAM], path)
     kept = stored(path)
     if kept is None:
-        raise NoRules("the program isn't built and no trace stands beside the script: bin/build builds it, --rules names another command")
+        raise NoRules("the program isn't built, and no trace is stored next to the script; bin/build builds it, or --rules names a command")
     return kept
 
 
 def beside(left, right):
-    """Pairs of lines with a mark where they differ: + the right one alone, - the left one alone, ! another line."""
+    """Pairs of lines with a mark: '!' for different lines, '-' for one only on the left, '+' for one only on the right, otherwise a space."""
     rows = []
     for tag, a, b, c, d in difflib.SequenceMatcher(None, left, right, False).get_opcodes():
         mine, theirs = left[a:b], right[c:d]

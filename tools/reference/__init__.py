@@ -1,18 +1,19 @@
-"""A second program of the rules, written from docs/RULES.md, docs/SCRIPT.md and docs/TRACE.md apart from the proved one.
+"""The reference program: a second implementation of the rules, written from docs/RULES.md, docs/SCRIPT.md and docs/TRACE.md
+independently of the proved program.
 
-It is plain Python of the standard library, shares no code with the proved program and none with its definitions, and no
-proof rests on it. Each module follows one part of the rules, in the plainest way, and says which:
+It is plain Python with nothing but the standard library, and shares no code with the proved program or its definitions; no
+proof depends on it. Each module implements one part of the rules, in the simplest way, and says which:
 
     lexer         bytes, lines and words of a script
-    lengths       lengths, percentages and numbers: how they are written, cut and printed
+    lengths       lengths, percentages and numbers: how they are written, truncated and printed
     styles        style properties and their values
     media         media queries
-    forms         the forms of words, each with what it says of itself
+    forms         the forms of words, with their descriptions
     grammar       the lines of a script: commands, handlers and blocks
     refusals      exceptions and limits of commands
     world         documents, elements, observers, listeners, timers and tasks
-    layout        boxes, widths, heights, scrolling and places
-    intersection  what an intersection observer finds, queues and tells
+    layout        boxes, widths, heights, scrolling and positions
+    intersection  what an intersection observer finds, queues and reports
     commands      what each command does
     page          how commands, callbacks and events run
     resize_loop   the resize loop and its error
@@ -20,10 +21,13 @@ proof rests on it. Each module follows one part of the rules, in the plainest wa
     trace         the lines of a trace
     inspector     boxes and hits (`--inspect`, `--hit`)
     streams       several pages in one stream (`--pages`)
-    program       the words of the command line and the statuses
+    program       the arguments of the command line and the exit statuses
     generator     the scripts of `--generate N`
-    shrinking     cuts a script down while something still holds of it
+    judge         the judgement of a recorded trace (`--judge`)
+    lint          the certificates of resize loops (`--lint`)
+    comparing     the comparison of the two programs, for tools/compare
+    shrinking     reduces a script for which something holds
     random_scripts  random scripts by kind
 
-`available` says what of this the proved program has: today all.
+`available` says which parts of this the proved program supports: today all of them.
 """

@@ -1,6 +1,6 @@
-"""What the proved program has today; the rest of this package is ahead of it.
+"""What the proved program supports today; anything else in this package is ahead of it.
 
-A change to the proved program that adds a version of the language, a property or a word of the command line adds it here too: then
+A change that adds a version of the language, a property or an argument to the proved program also adds it here; from then on,
 tools/compare compares it and bin/explain explains it.
 """
 from . import grammar

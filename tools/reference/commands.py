@@ -1,8 +1,8 @@
-"""What each command does once its operands are looked up: its own exceptions first, then its limits, then its effect (docs/
-SCRIPT.md, 'Commands' and 'The order of exceptions'). A command that is refused changes nothing.
+"""What each command does once its operands have been looked up: its own exceptions first, then its limits, then its effect
+(docs/SCRIPT.md, 'Commands' and 'The order of exceptions'). A command that throws or meets a limit changes nothing.
 
-EFFECTS has a function for each command but `each`, `when` and `tick`, which page.py runs; it is given the page, the command,
-and the values of its operands in order. CONDITIONS has one for each condition of `when`.
+EFFECTS has a function for each command except `each`, `when` and `tick`, which page.py runs; it is given the page, the
+command, and the values of its operands in order. CONDITIONS has one for each condition of `when`.
 """
 from . import intersection, trace
 from .forms import NONE
@@ -67,7 +67,7 @@ def before(page, command, parent, node, sibling):
 
 
 def _put(page, command, parent, node, sibling):
-    """A document counts as the parent of its root element; it has no place for a second one, nor for the same one."""
+    """A document counts as the parent of its root element; it can't have a second one, nor the same one again."""
     most = page.world.most['depth']
     if isinstance(parent, Element) and node in path(parent):
         raise Throw('HierarchyRequestError', command.operands[1], (
@@ -182,7 +182,7 @@ def _margins(command, place, text, called):
 
 
 def _word_of(operand, place):
-    """One of the words of an operand that has several."""
+    """One of the words of an operand that consists of several."""
     return Operand(operand.form, operand.value, operand.word + place)
 
 
@@ -287,7 +287,7 @@ def post(page, command, document, handler):
 # --- scrolling and reading (the rules 'Scrolling' and '`read`'; CSSOM View, 4 to 6) -------------------------------------------
 
 def _scrolled(page, thing):
-    """What is scrolled in its name: (the thing, the document whose list it waits on, range, offset in force), or None."""
+    """What scrolling it scrolls: (element or document, the document with the list for its event, range, offset in force), or None."""
     layout = page.world.layout
     if isinstance(thing, Element) and thing.root_of is not None:
         thing = thing.root_of

@@ -1,7 +1,7 @@
-"""The proved program beside the reference over random scripts: what tools/compare does.
+"""Compares the proved program with the reference on random scripts, for tools/compare.
 
-A script that runs long is passed over for the next candidate of its seed: one that begins more than MOST_COMMANDS commands,
-writes more than MOST_LINES lines or takes the reference more than MOST_SECONDS of the processor.
+A script that runs too long is skipped for the next candidate of its seed: one that begins more than MOST_COMMANDS commands,
+writes more than MOST_LINES lines or takes the reference more than MOST_SECONDS of processor time.
 """
 import contextlib
 import signal
@@ -18,13 +18,13 @@ MOST_SECONDS_OF_THE_PROGRAM = 120
 
 
 class TooLong(Exception):
-    """A run is given up."""
+    """A run took too long and was abandoned."""
 
 
 @contextlib.contextmanager
 def time_limit(seconds):
-    """Raises TooLong in what takes the processor longer; for the main thread alone. What else runs on the machine plays no
-    part in it."""
+    """Raises TooLong in code that takes more processor time than this; works only in the main thread. Other work on the
+    machine doesn't count."""
     def give_up(number, frame):
         raise TooLong
     before = signal.signal(signal.SIGPROF, give_up)
@@ -37,7 +37,7 @@ def time_limit(seconds):
 
 
 class _ShortPage(Page):
-    """A page whose runs are given up where they are long."""
+    """A page that raises TooLong if its run is long."""
 
     def __init__(self, script, lines):
         Page.__init__(self, script, self.keep)
@@ -55,7 +55,7 @@ class _ShortPage(Page):
 
 
 class Answer:
-    """What a program wrote and its status; where it has none, words say why."""
+    """What a program wrote, and its exit status, or a text that says why it has none."""
 
     def __init__(self, text, status):
         self.text, self.status = text, status
@@ -83,7 +83,7 @@ def short_replay(text, language):
 
 
 def reference_answer(words, text, language):
-    """What the reference answers, or None where that takes long. That it fails is an answer too."""
+    """The reference's answer, or None if that takes too long. A failure counts as an answer too."""
     try:
         with time_limit(MOST_SECONDS):
             if words and words[0] in ('--pages', '--judge', '--lint', '--check'):
@@ -106,7 +106,7 @@ def program_answer(command, words, text):
 
 
 class Case:
-    """A random script with the words it is run with, and what the reference answers."""
+    """A random script with the arguments of its run, and the reference's answer."""
 
     def __init__(self, kind, seed, version, language):
         self.kind, self.seed, self.version, self.language = kind, seed, version, language
@@ -132,7 +132,7 @@ class Case:
 
 
 def first_difference(one, other):
-    """(number of the first line that differs, the one line, the other); a line is None behind the end."""
+    """(number of the first line that differs, one line, the other); a line past the end is None."""
     place = 0
     while place < len(one) and place < len(other) and one[place] == other[place]:
         place += 1

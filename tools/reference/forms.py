@@ -1,6 +1,6 @@
-"""The forms of words (docs/SCRIPT.md, 'Words' and 'Commands'), and of each what it says of itself.
+"""The forms of words (docs/SCRIPT.md, 'Words' and 'Commands'), with their descriptions.
 
-A form's reader answers None for a word that isn't of it. `names` says what an operand of the form must name as its
+A form's reader returns None for a word that doesn't have the form. `names` says what an operand of the form must name as its
 command begins: 'new' for a name that is free, 'handler', or kinds of things; it is None for a plain value.
 """
 from . import styles
@@ -19,7 +19,7 @@ LENGTH_SHAPE = 'It has up to 7 digits, optionally a point and one or two digits,
 
 
 class Form:
-    """`shown` is the form's name in docs/SCRIPT.md, `said` what stands there, and `shape` a sentence on how it is written."""
+    """`shown` is the form's name in docs/SCRIPT.md, `said` describes it, and `shape` is a sentence on how it is written."""
 
     def __init__(self, shown, read, said, names=None, keywords=(), shape=None):
         self.shown, self.read, self.said, self.names, self.keywords, self.shape = shown, read, said, names, keywords, shape
@@ -34,7 +34,7 @@ def _or_none(read):
 
 
 def _listened(word):
-    """(name, whether it is of a window)."""
+    """(name, whether it means a document's window)."""
     window = word.startswith(b'@')
     name = read_name(word[1:]) if window else _node(word)
     return None if name is None else (name, window)

@@ -1,4 +1,5 @@
-"""The scripts of `--generate N` (docs/TRACE.md, 'Words'): a list of cards, each with an image that loads as it comes near."""
+"""The scripts of `--generate N` (docs/TRACE.md, 'Words'): a list of cards, each with an image that loads when it comes near
+the viewport."""
 
 MOST = 1000000
 

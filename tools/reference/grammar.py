@@ -1,7 +1,7 @@
 """The lines of a script: commands, handlers and blocks (docs/SCRIPT.md, 'Commands', 'Limits' and 'The first fault of a text').
 
-`parse` answers a Script, or raises the first Fault or TextLimit in the order of the lines; in one line the bytes come first,
-then its words, then the limits `nesting` and `handlers`.
+`parse` returns a Script, or raises the first Fault or TextLimit in the order of the lines; within a line the bytes come
+first, then its words, then the limits `nesting` and `handlers`.
 """
 from . import forms, media
 from .forms import (ANY_NODE, AXIS, BOX, BOX_OR_DEVICE, DOC, ELEMENT_NODE, EVENT, HANDLER, HANDLER_OR_NONE, IO, KEY, LENGTH,
@@ -61,7 +61,7 @@ def plain_commands(version):
 
 
 class Operand:
-    """A word that was read: its form, its value and which word of the line it is, the command's name being word 0."""
+    """A word that has been read: its form, its value and its place in the line, the command's name being word 0."""
     __slots__ = ('form', 'value', 'word')
 
     def __init__(self, form, value, word):
@@ -69,7 +69,7 @@ class Operand:
 
 
 class Command:
-    """A command with its operands; `each` and `when` have a body, and `when` a condition that `not` may turn round."""
+    """A command with its operands; `each` and `when` have a body, and `when` has a condition, which `not` may negate."""
     __slots__ = ('line', 'name', 'operands', 'body', 'condition', 'turned')
 
     def __init__(self, line, name, operands):
@@ -85,7 +85,7 @@ class Handler:
 
 
 class Language:
-    """What is known of the language: these versions, and all of their properties but those in `without`."""
+    """The supported part of the language: these versions, with all their properties except those in `without`."""
 
     def __init__(self, versions=(1, 2), without=()):
         self.versions, self.without = versions, without
@@ -99,7 +99,7 @@ class Script:
         self.version = 0
         self.commands = []                # outside handlers, in order
         self.handlers = {}                # by name, in the order of their lines
-        self.count = 0                    # of all commands
+        self.count = 0                    # of commands, all included
 
 
 def every_command(commands):
@@ -113,35 +113,35 @@ def every_command(commands):
 # --- causes of faults -------------------------------------------------------------------------------------------------------
 
 class Unfit:
-    """A word that fits none of the forms that may stand there, or none where one must stand."""
+    """A word that has none of the forms allowed there, or a missing word."""
 
     def __init__(self, word, wanted, first_words=()):
         self.word, self.wanted, self.first_words = word, wanted, first_words
 
 
 class TooMany:
-    """A word behind the last one of its line's form."""
+    """A word after the last one of its line's form."""
 
     def __init__(self, word):
         self.word = word
 
 
 class Misplaced:
-    """A line that may not stand there; the sentence says why."""
+    """A line that isn't allowed there; the sentence says why."""
 
     def __init__(self, sentence):
         self.sentence = sentence
 
 
 class BadQuery:
-    """A text that is no media query; the column counts in the text."""
+    """A text that isn't a media query list; the column is that in the text."""
 
     def __init__(self, text, column):
         self.text, self.column = text, column
 
 
 class LeftOpen:
-    """The script ends with these lines open."""
+    """The script ends with these handlers or blocks open, given by their lines."""
 
     def __init__(self, lines):
         self.lines = lines
@@ -164,7 +164,7 @@ class Words:
         return self.words[self.at][1] if self.at < len(self.words) else None
 
     def column(self):
-        """Of the next word, or where it is missing the one behind the last word."""
+        """The column of the next word, or if there is none, the column after the last word."""
         if self.at < len(self.words):
             return self.words[self.at][0]
         column, word = self.words[-1]
@@ -174,7 +174,7 @@ class Words:
         return Fault(self.number, self.column(), cause)
 
     def take(self, form):
-        """The value of the next word, which must be of this form."""
+        """The value of the next word, which must have this form."""
         word = self.next()
         value = None if word is None else form.read(word)
         if value is None:
@@ -242,7 +242,7 @@ def _read_media(words):
 
 
 def _read_condition(words):
-    """(turned round, the condition's name, its operands)."""
+    """(whether it is negated, the condition's name, its operands)."""
     turned = words.next() == b'not'
     if turned:
         words.at += 1
@@ -251,7 +251,7 @@ def _read_condition(words):
 
 
 def read_command(words, version, without=()):
-    """The command of a line whose first word is looked at next; these properties aren't known."""
+    """The command of a line whose first word comes next; the properties in `without` aren't supported."""
     name = words.next().decode('ascii')
     words.at = 1
     if name == 'when':
@@ -275,7 +275,7 @@ def read_command(words, version, without=()):
 
 
 def form_of(name, version):
-    """A command's form as docs/SCRIPT.md writes it; of `when` there is one for each condition."""
+    """A command's forms as docs/SCRIPT.md writes them; `when` has one for each condition."""
     if name == 'when':
         return [' '.join(['when [not] ' + asked] + [form.shown for form in operands]) for asked, operands in CONDITIONS.items()]
     special = {'handler': 'handler NAME', 'end': 'end', 'script': 'script %d' % version, 'set': 'set NODE PROPERTY VALUE',
@@ -293,21 +293,21 @@ def command_names(version):
 
 
 def first_words(version):
-    """The words with which a line behind the first may begin."""
+    """The words that a line after the first may begin with."""
     return sorted([*command_names(version), 'handler', 'end'])
 
 
 # --- the script -------------------------------------------------------------------------------------------------------------
 
 class _Open:
-    """A handler or a block that no `end` has closed yet."""
+    """A handler or block that isn't closed by an `end` yet."""
 
     def __init__(self, what, line, commands):
         self.what, self.line, self.commands = what, line, commands
 
 
 class _Reader:
-    """Takes the lines with words in order."""
+    """Reads the lines with words in order."""
 
     def __init__(self, language):
         self.language, self.script, self.open = language, Script(), []
@@ -367,7 +367,7 @@ class _Reader:
 
 
 def parse(text, language=WHOLE):
-    """The script of these bytes, as far as the language is known."""
+    """The script of these bytes, with the supported part of the language."""
     check_size(text)
     reader = _Reader(language)
     for number, line, ended in lines_of(text):

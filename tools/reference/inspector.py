@@ -1,4 +1,4 @@
-"""The boxes of a page and what lies below a point (`--inspect`, `--hit`)."""
+"""The boxes of a page, and the elements at a point (`--inspect`, `--hit`)."""
 from . import lengths
 from .intersection import Clip, clips_between, common_part, seen_from
 from .layout import BORDER
@@ -6,13 +6,13 @@ from .world import ACTIVE, depth, preorder
 
 
 def _clips(world, element):
-    """The element's border box with all that clips it, in the coordinates of `top`."""
+    """The element's border box and everything that clips it, in the coordinates of `top`."""
     layout = world.layout
     return clips_between(layout, element, None) + [Clip(world.top, 'viewport', layout.viewport_rectangle(world.top))]
 
 
 def boxes(world):
-    """A line for each element with a box, by documents in the order of an update: its border box and what is seen of it."""
+    """A line for each element with a box, by document in the order of an update: its border box and the visible part of it."""
     return [_box_line(world, element) for document in world.active_documents() if document.root is not None
             for element in preorder(document.root) if world.layout.has_box(element)]
 
@@ -30,7 +30,7 @@ def _box_line(world, element):
 
 
 def hits(world, left, top):
-    """The elements below a point of the viewport of `top`, the uppermost first: a frame's document lies in its frame."""
+    """The elements at a point of the viewport of `top`, topmost first, including those of documents in frames."""
     found = ['hit ' + element.name for element in _painted(world)
              if world.layout.has_box(element)
              and all(_holds(clip.rectangle, left, top) for clip in _clips(world, element))]
@@ -38,7 +38,7 @@ def hits(world, left, top):
 
 
 def _painted(world):
-    """All elements of shown documents in the order of painting."""
+    """All elements of Active documents in painting order."""
     waiting = [world.top.root] if world.top.root is not None else []
     while waiting:
         element = waiting.pop()

@@ -1,7 +1,7 @@
-"""What an intersection observer finds, queues and tells (the rule 'Intersections' of docs/RULES.md; Intersection Observer,
-2.2 and 3.2). Scroll margins are of version 2.
+"""What an intersection observer finds, queues and reports (the rule 'Intersections' of docs/RULES.md; Intersection Observer,
+2.2 and 3.2). Only version 2 has scroll margins.
 
-Rectangles are (left, top, right, bottom), in the coordinates of `top` until an entry shows them.
+Rectangles are (left, top, right, bottom), in the coordinates of `top` except in entries.
 """
 from .layout import PAGE, SCREEN
 from .lengths import dilated
@@ -11,17 +11,17 @@ NOTHING = (0, 0, 0, 0)
 
 
 class Clip:
-    """A rectangle on the way from a target to its root: whose it is, and `border box`, `padding box` or `viewport`. Its own is
-    the one before a margin moves it."""
+    """A rectangle between a target and its root: the element or document that it belongs to, and `border box`, `padding box`
+    or `viewport`. `own` is the rectangle before it is expanded by a margin."""
 
     def __init__(self, thing, box, rectangle, own=None):
         self.thing, self.box, self.rectangle, self.own = thing, box, rectangle, own
 
 
 class Entry:
-    """What was found of a target, its rectangles as they are told. For explanations: `before` is (index, meeting) of the
-    last update; `unseen` says why nothing can be seen, where target and root have nothing to do with one another or the
-    target has no box; `clips` are those passed, the target's own box first and the root's rectangle last."""
+    """What was found for a target, its rectangles as they are reported. For explanations: `before` is (index, whether it
+    intersected) of the last update; `unseen` says why nothing is visible, if the target is apart from the root or has no box;
+    `clips` are the clips between them, with the target's own box first and the root's rectangle last."""
     __slots__ = ('target', 'time', 'index', 'meets', 'before', 'part', 'whole', 'root', 'box', 'cut', 'unseen', 'clips')
 
     def __init__(self, target, root):
@@ -32,7 +32,7 @@ class Entry:
 
 
 def common_part(rectangles):
-    """Touching edges included; None where no point is common."""
+    """The rectangle common to all, which may be a mere edge or point; None if no point is common."""
     left = max([rectangle[0] for rectangle in rectangles])
     top = max([rectangle[1] for rectangle in rectangles])
     right = min([rectangle[2] for rectangle in rectangles])
@@ -41,7 +41,7 @@ def common_part(rectangles):
 
 
 def seen_from(origin, rectangle):
-    """A rectangle in the coordinates of `top`, in those of a viewport with this origin."""
+    """Converts a rectangle from the coordinates of `top` to those of a viewport with this origin."""
     left, top = origin
     return (rectangle[0] - left, rectangle[1] - top, rectangle[2] - left, rectangle[3] - top)
 
@@ -85,7 +85,7 @@ def clips_between(layout, target, root, scroll_margins=None):
 
 
 class RootRectangle:
-    """An observer's root rectangle: as the root has it, moved outward by the margins, and the origin of its coordinates."""
+    """An observer's root rectangle: the root's own one, the same expanded by the margins, and the origin of its coordinates."""
 
     def __init__(self, world, observer):
         layout, root = world.layout, observer.root
@@ -105,7 +105,7 @@ class RootRectangle:
 
 
 def _why_apart(layout, root, target):
-    """Why nothing of this target is seen from this root, or None. A sentence's part."""
+    """Why this target is apart from this root, as a part of a sentence, or None."""
     if root is None:
         return None
     root_document = root if isinstance(root, Document) else root.document
@@ -122,7 +122,7 @@ def _why_apart(layout, root, target):
 
 
 def find(world, observer, root, target):
-    """What an observer with this root rectangle sees of a target now."""
+    """What an observer with this root rectangle finds for a target now."""
     layout = world.layout
     entry = Entry(target, seen_from(root.origin, root.rectangle))
     entry.unseen = _why_apart(layout, observer.root, target)
@@ -143,7 +143,7 @@ def index_of(observer, entry):
 
 
 def measure(layout, entry):
-    """What is seen through the clips."""
+    """Sets what is visible within the clips."""
     box = entry.clips[0].rectangle
     cut = common_part([clip.rectangle for clip in entry.clips])
     here = layout.origin(entry.target.document)
@@ -158,7 +158,7 @@ def measure(layout, entry):
 
 
 def observers_of(world, document):
-    """Those that are updated and notified with a document, in order of making."""
+    """The observers that are updated and notified with a document, in order of creation."""
     def belongs(observer):
         root = observer.root
         if root is None:
@@ -168,7 +168,7 @@ def observers_of(world, document):
 
 
 def update(world, document):
-    """Queues an entry for each target of which index or meeting differs from the last update's."""
+    """Queues an entry for each target whose index or isIntersecting differs from that of the last update."""
     queued = False
     for observer in observers_of(world, document):
         root = RootRectangle(world, observer)

@@ -1,4 +1,4 @@
-"""A recorded trace beside the one of its script (`--judge`).
+"""Compares a recorded trace with that of its script (`--judge`).
 
 The source is a script, a line `trace` and the recorded trace.
 """
@@ -14,7 +14,7 @@ def split_after_line_feeds(text):
 
 
 def parts(text):
-    """(script, recorded trace): what stands before the first line `trace`, and behind it."""
+    """(script, recorded trace): what comes before the first line `trace`, and what comes after it."""
     at = 0
     while at < len(text):
         end = text.find(b'\n', at)
@@ -28,7 +28,7 @@ def parts(text):
 
 
 def verdict(expected, recorded):
-    """`equal COUNT`, or `differs LINE` and how; both are lists of lines with their line feeds."""
+    """`equal COUNT`, or `differs LINE` and how, for two lists of lines with their line feeds."""
     if expected == recorded:
         return 'equal %d' % len(expected)
     place = 0

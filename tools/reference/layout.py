@@ -1,7 +1,7 @@
-"""Boxes, widths, heights, scrolling and places (the rules 'Boxes' to 'Scrolling' of docs/RULES.md; CSS 2.2, 9 and 10; CSS
-Overflow 3, 2.2 and 3; CSSOM View, 4 to 6). Positions, insets and the box `device` are of version 2.
+"""Boxes, widths, heights, scrolling and positions (the rules 'Boxes' to 'Scrolling' of docs/RULES.md; CSS 2.2, 9 and 10; CSS
+Overflow 3, 2.2 and 3; CSSOM View, 4 to 6). Only version 2 has `position`, insets and the box `device`.
 
-A Layout is of one state of the world. What it was asked it remembers until the world changes. Rectangles are
+A Layout belongs to one state of the world; its results are cached until the world changes. Rectangles are
 (left, top, right, bottom).
 """
 import sys
@@ -46,7 +46,7 @@ class Layout:
                 and (document.frame is None or self.has_box(document.frame)))
 
     def why_no_box(self, node):
-        """A sentence's part: the first reason, from the element upwards, why it has no box."""
+        """Why an element has no box, as a part of a sentence: the first reason on the way up from the element."""
         while not self.has_box(node):
             if node.style['display'] == 'none':
                 return '`%s` has `display: none`' % node.name
@@ -62,7 +62,7 @@ class Layout:
     def viewport(self, document):
         return self.world.viewport_size if document.frame is None else self.size(document.frame, CONTENT)
 
-    # --- what an element is laid out in -------------------------------------------------------------------------------------
+    # --- containing blocks --------------------------------------------------------------------------------------------------
 
     @staticmethod
     def position(node):
@@ -72,7 +72,7 @@ class Layout:
         return self.position(node) in ('static', 'relative')
 
     def holder(self, node):
-        """The element in whose coordinates it is placed and with which it scrolls, or PAGE or SCREEN."""
+        """The element whose box is its containing block, or PAGE or SCREEN."""
         if node.root_of is not None:
             return PAGE
         position = node.style['position']
@@ -88,7 +88,7 @@ class Layout:
         return PAGE
 
     def containing(self, node):
-        """(containing width, definite containing height or None)."""
+        """(containing width, containing height if it is definite, otherwise None)."""
         known = self._containing.get(node)
         if known is None:
             known = self._containing[node] = self._find_containing(node)
@@ -105,14 +105,14 @@ class Layout:
         return (self.width(parent), self.height(parent) if self._is_definite(parent) else None)
 
     def _is_definite(self, node):
-        """Whether its height doesn't hang on what is in it."""
+        """Whether its height is definite: not dependent on its content."""
         given = node.style['height']
         if given is AUTO:
             return not self.in_flow(node) and node.style['top'] is not AUTO and node.style['bottom'] is not AUTO
         return given[0] == 'px' or self.containing(node)[1] is not None
 
     def edges(self, node):
-        """Margins, borders and paddings as used, each as (top, right, bottom, left)."""
+        """The used margins, borders and paddings, each as (top, right, bottom, left)."""
         known = self._edges.get(node)
         if known is None:
             width, style = self.containing(node)[0], node.style
@@ -208,7 +208,7 @@ class Layout:
         return (width + border[1] + border[3], height + border[0] + border[2])
 
     def size(self, node, box):
-        """Of the content box, the border box or the content box in device pixels; 0 by 0 without a box."""
+        """The size of the content box, the border box, or the content box in device pixels; 0 by 0 without a box."""
         if not self.has_box(node):
             return (0, 0)
         if box == BORDER:
@@ -219,16 +219,16 @@ class Layout:
         return tuple([cut(units * self.world.pixel_ratio + 320000, 640000) for units in size])
 
     def content_corner(self, node):
-        """The left and top padding; a resize entry's rectangle begins there."""
+        """The left and top padding: the corner of a resize entry's content rectangle."""
         if not self.has_box(node):
             return (0, 0)
         padding = self.edges(node)[2]
         return (padding[3], padding[0])
 
-    # --- places -------------------------------------------------------------------------------------------------------------
+    # --- positions ----------------------------------------------------------------------------------------------------------
 
     def _heights_above(self, node):
-        """The margin boxes of earlier siblings in flow with a box."""
+        """The total height of the margin boxes of the in-flow siblings before it that have a box."""
         if node not in self._above:
             total = 0
             for child in node.parent.children:
@@ -238,7 +238,7 @@ class Layout:
         return self._above[node]
 
     def _offset(self, node):
-        """Of the border box in its parent's border box, as in normal flow."""
+        """The offset of its border box from that of its parent, as if it were in flow."""
         margin = self.edges(node)[0]
         if node.root_of is not None:
             return (capped(margin[3]), capped(margin[0]))
@@ -247,7 +247,7 @@ class Layout:
                 capped(border[0] + padding[0] + self._heights_above(node) + margin[0]))
 
     def flat_place(self, node):
-        """The place with nothing scrolled."""
+        """The position of its border box in its document while nothing is scrolled."""
         known = self._flat.get(node)
         if known is None:
             known = self._flat[node] = self._find_flat_place(node)
@@ -274,7 +274,7 @@ class Layout:
         return 0 if by is None else -by
 
     def _absolute(self, node, axis, corner, static):
-        """One coordinate of an element out of flow: by its insets in its holder's padding box, else its static place."""
+        """One coordinate of an out-of-flow element: by its insets in its containing block, otherwise its static position."""
         near, far = (('left', 'right'), ('top', 'bottom'))[axis]
         near_margin, far_margin = ((3, 1), (0, 2))[axis]
         margin = self.edges(node)[0]
@@ -295,7 +295,7 @@ class Layout:
         return (left + border[3], top + border[0])
 
     def _shift(self, node):
-        """The scroll offsets in force on the way to the viewport, its own included."""
+        """The sum of the scroll offsets in force on its containing block chain, including the viewport's."""
         known = self._shifts.get(node)
         if known is None:
             holder = self.holder(node)
@@ -312,7 +312,7 @@ class Layout:
         return known
 
     def place(self, node):
-        """Of the border box of an element with a box, in its document's viewport."""
+        """The position of its border box in its document's viewport; it must have a box."""
         left, top = self.flat_place(node)
         by_left, by_top = self._shift(node)
         return (left - by_left, top - by_top)
@@ -327,8 +327,8 @@ class Layout:
         return self.clips(node) and node.style['overflow'] != 'clip'
 
     def _reaches_of(self, document):
-        """For each clipping box, PAGE and SCREEN: the farthest right and bottom edges, with nothing scrolled, of the boxes
-        that come to it with no clipping box between."""
+        """For each clipping box, PAGE and SCREEN: the farthest right and bottom edges, while nothing is scrolled, of the boxes
+        whose containing block chain reaches it with no clipping box in between."""
         known = self._reaches.get(document)
         if known is None:
             known = self._reaches[document] = {}
@@ -351,7 +351,7 @@ class Layout:
                 waiting.extend(node.children)
 
     def _range(self, size, corner, far):
-        """How far a box of this size and corner scrolls, where what is in it goes to `far`."""
+        """The scroll range of a box with this size and corner whose content extends to `far`."""
         if far is None:
             return (0, 0)
         reach = (max(size[0], far[0] - corner[0]), max(size[1], far[1] - corner[1]))
@@ -366,7 +366,7 @@ class Layout:
         return self._range(self.viewport(document), (0, 0), far)
 
     def element_offset(self, node):
-        """In force, of a scroll container with a box."""
+        """The scroll offset in force of a scroll container with a box."""
         most = self.element_range(node)
         return (min(node.scroll[0], most[0]), min(node.scroll[1], most[1]))
 
@@ -377,7 +377,7 @@ class Layout:
     # --- rectangles in the coordinates of `top` -----------------------------------------------------------------------------
 
     def origin(self, document):
-        """Of a document's viewport."""
+        """The origin of a document's viewport."""
         known = self._origins.get(document)
         if known is None:
             frame = document.frame
@@ -408,14 +408,14 @@ class Layout:
 
 
 def _inner(node, length, around):
-    """A given width or height as one of the content box."""
+    """A given width or height, converted to that of the content box."""
     if length is None or node.style['box-sizing'] == 'content-box':
         return length
     return max(length - around, 0)
 
 
 def _used_height(length, have):
-    """None also for a percentage without a definite containing height."""
+    """The length of a height property in units; None for `auto` and `none`, and for a percentage without a definite height."""
     if length is not AUTO and length is not NONE and length[0] == '%' and have is None:
         return None
     return used(length, have)

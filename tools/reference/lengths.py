@@ -1,7 +1,7 @@
 """Lengths and numbers (the rule 'Numbers' of docs/RULES.md; docs/SCRIPT.md, 'Words'; docs/TRACE.md).
 
 All lengths are whole units of 1/64 pixel. A style's length is AUTO, NONE, ('px', units) or ('%', hundredths of a percent).
-A reader answers None for a word that isn't of its form.
+A reader returns None for a word that doesn't have its form.
 """
 import re
 
@@ -28,7 +28,7 @@ def clamped(units):
 
 
 def cut(numerator, divisor):
-    """The quotient cut toward zero, for a positive divisor."""
+    """The quotient truncated toward zero, for a positive divisor."""
     return numerator // divisor if numerator >= 0 else -(-numerator // divisor)
 
 
@@ -37,7 +37,7 @@ def percentage(hundredths, basis):
 
 
 def used(length, basis):
-    """The units of a style's length against a basis; None where it is `auto` or `none`."""
+    """A style's length in units, percentages being of `basis`; None if it is `auto` or `none`."""
     if length is AUTO or length is NONE:
         return None
     return capped(length[1] if length[0] == 'px' else percentage(length[1], basis))
@@ -46,7 +46,7 @@ def used(length, basis):
 # --- the forms of words -----------------------------------------------------------------------------------------------------
 
 def _hundredths(found, most):
-    """The number as written, in hundredths; None where it is more than `most` wholes."""
+    """The number as written, in hundredths; None if it is greater than `most`."""
     number = int(found.group(1)) * 100
     if found.group(2):
         number += int(found.group(2).ljust(2, b'0'))
@@ -111,7 +111,7 @@ def _margin_part(word):
 
 
 def read_margins(text):
-    """(top, right, bottom, left) of words joined by one space, completed as in CSS; None where they are no margin."""
+    """(top, right, bottom, left) from words joined by one space, completed as in CSS; None if they aren't a margin."""
     parts = [_margin_part(word) for word in text.split(b' ')] if text else [('px', 0)]
     if None in parts or len(parts) > 4:
         return None
@@ -123,13 +123,13 @@ def read_margins(text):
 
 
 def bad_margin_part(text):
-    """The number of the first word for which these are no margin; the fifth, from 0 on 4, is one too many."""
+    """The index of the first word that keeps this from being a margin; 4, the fifth, is one too many."""
     parts = [_margin_part(word) for word in text.split(b' ')][:4]
     return parts.index(None) if None in parts else 4
 
 
 def dilated(rectangle, margins):
-    """Moved outward by the margins; a percentage is of the rectangle's width, on all four sides."""
+    """The rectangle expanded by the margins; percentages refer to its width, on all four sides."""
     left, top, right, bottom = rectangle
     by_top, by_right, by_bottom, by_left = [
         amount if unit == 'px' else percentage(amount, right - left) for unit, amount in margins]
@@ -139,7 +139,7 @@ def dilated(rectangle, margins):
 # --- printing ---------------------------------------------------------------------------------------------------------------
 
 def px(units):
-    """Exact decimal pixels."""
+    """Pixels as an exact decimal number."""
     whole, rest = divmod(abs(units), UNITS_PER_PIXEL)
     sign = '-' if units < 0 else ''
     if not rest:

@@ -1,6 +1,6 @@
 """Bytes, lines and words of a script (docs/SCRIPT.md, 'Bytes, lines, words', 'Limits' and 'The first fault of a text').
 
-Lines are handed out one at a time, so that the first fault or limit in the order of the lines comes first.
+Lines are produced one at a time, so that the first fault or limit in the order of the lines is found first.
 """
 import re
 
@@ -13,14 +13,14 @@ _LINE_WITH_BYTES = re.compile(rb'[^\n]+')
 
 
 class BadByte:
-    """A fault's cause: a byte that no line may hold."""
+    """A fault's cause: a byte that isn't allowed in a line."""
 
     def __init__(self, byte):
         self.byte = byte
 
 
 class Fault(Exception):
-    """The text is no script. The cause says what stands there and what may stand there."""
+    """The text isn't a script. The cause says what is there and what is allowed there."""
 
     def __init__(self, line, column, cause):
         Exception.__init__(self, line, column, cause)
@@ -31,7 +31,7 @@ class Fault(Exception):
 
 
 class TextLimit(Exception):
-    """A limit of the text is met: `script`, `line`, `handlers` or `nesting`. `held` are the lines of what was counted."""
+    """A text meets a limit: `script`, `line`, `handlers` or `nesting`. `held` are the lines of what was counted."""
 
     def __init__(self, kind, line, number, held=()):
         Exception.__init__(self, kind, line, number)
@@ -47,7 +47,7 @@ def check_size(text):
 
 
 def lines_of(text):
-    """(number, bytes, whether a line feed ends it) for each line that has a byte."""
+    """(number, bytes, whether a line feed ends it) for each line that isn't empty."""
     number, at = 1, 0
     for found in _LINE_WITH_BYTES.finditer(text):
         number += text.count(b'\n', at, found.start())
@@ -60,7 +60,7 @@ def line_count(text):
 
 
 def check_bytes(number, line, ended):
-    """The bytes of one line in order: the first bad one, or byte 4,097."""
+    """Checks the bytes of a line in order, up to the first invalid one, or byte 4,097."""
     body = line[:-1] if ended and line.endswith(b'\r') else line
     bad = _BAD_BYTE.search(body, 0, MOST_LINE)
     if bad:

@@ -1,5 +1,5 @@
-"""What a script's resize loops can't do, by what its loop handlers hold (docs/LOOPS.md). The crate `loop_lint` has the verdicts and their
-proofs.
+"""The certificates of a script's resize loops, from the commands in its loop handlers (docs/LOOPS.md). The crate `loop_lint` defines
+and proves them.
 """
 from .grammar import every_command
 

@@ -1,7 +1,7 @@
 """Media queries (Media Queries 4, 3; docs/SCRIPT.md, 'Style properties').
 
-The grammar's language is regular, a length with its range included, so it is held as a finite automaton of which every
-state leads to an end. A text then begins a list of queries exactly where the set of states behind it isn't empty.
+The language of the grammar is regular, even with the range of lengths, so it is represented by a finite automaton in which
+every state leads to an end. A text is a prefix of a media query list exactly if the set of states after it isn't empty.
 """
 from collections import deque
 
@@ -10,7 +10,7 @@ from .lengths import read_length
 
 class _Automaton:
     def __init__(self):
-        self.empty = []                   # state -> the states that are reached by nothing
+        self.empty = []                   # state -> the states reached without a byte
         self.steps = []                   # state -> (set of bytes, state) pairs
 
     def state(self):
@@ -19,7 +19,7 @@ class _Automaton:
         return len(self.empty) - 1
 
 
-# A fragment is a function of an automaton and a state; it adds the fragment behind that state and answers its last one.
+# A fragment is a function of an automaton and a state; it adds the fragment after that state and returns its last state.
 
 def _text(text):
     def add(automaton, at):
@@ -134,8 +134,8 @@ def _after(states, byte):
 
 
 def bad_column(text):
-    """None for a list of queries; else the column of the first byte with which the text so far begins no list, or the
-    one behind its end, counted from 1."""
+    """None for a media query list; otherwise the column, from 1, of the first byte with which the text is no longer a prefix
+    of one, or the column after its end."""
     states = _FIRST
     for place, byte in enumerate(text):
         states = _after(states, byte)
@@ -145,7 +145,7 @@ def bad_column(text):
 
 
 def shortest_ending(text):
-    """The fewest bytes that make a list of a text that begins one."""
+    """The shortest text that completes a prefix of a media query list."""
     states = _FIRST
     for byte in text:
         states = _after(states, byte)
@@ -160,13 +160,13 @@ def shortest_ending(text):
             if reached not in seen:
                 seen.add(reached)
                 waiting.append((reached, ending + bytes([byte])))
-    raise ValueError('the text begins no list')
+    raise ValueError("the text isn't a prefix of a media query list")
 
 
-# --- what a text means that is a list ---------------------------------------------------------------------------------------
+# --- the meaning of a media query list --------------------------------------------------------------------------------------
 
 class Query:
-    """One query: whether `not` turns it round, its type, whether `or` joins its features, and these with their values."""
+    """A media query: whether `not` negates it, its type, whether `or` joins its features, and these with their values."""
 
     def __init__(self):
         self.turned, self.type, self.joined_by_or, self.features = False, None, False, []

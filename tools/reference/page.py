@@ -13,9 +13,9 @@ def article(kind):
 
 
 class Page:
-    """A world and the run of a script over it.
+    """A world, and the run of a script on it.
 
-    Each line of the trace goes to `write(text, line, about)`: the script's line of the command that is running, and what the
+    Each line of the trace goes to `write(text, line, about)`, with the script's line of the running command and what the trace
     line is about: an entry with its observer, a Throw, a Limit, a loop error, or None.
     """
 
@@ -24,20 +24,20 @@ class Page:
         self.world = World(script.version)
         self.line = 0                     # of the running command
         self.entries = None               # of the running callback: a list, or None
-        self.entry = None                 # the present one, in an `each`
+        self.entry = None                 # the current one, in an `each`
 
     def tell(self, text, about=None):
         self.write(text, self.line, about)
 
     def run(self):
-        """Runs the script to its end, or to a limit, whose line is written; answers whether none was met."""
+        """Runs the script to its end, or to a limit, whose line is written; returns whether no limit was met."""
         for command in self.script.commands:
             if not self.run_outside(command):
                 return False
         return True
 
     def run_outside(self, command):
-        """Runs one command that stands outside handlers; answers whether no limit was met."""
+        """Runs one command outside handlers; returns whether no limit was met."""
         try:
             self.run_command(command)
         except Limit as met:
@@ -65,7 +65,7 @@ class Page:
         return values
 
     def new_name(self, operand, new):
-        """Free in the world, and not new a second time in this command."""
+        """A name that is free in the world and isn't used twice as a new name in this command."""
         name = operand.value
         if name in self.world.names:
             raise Throw('TypeError', operand, '`%s` is taken: it is %s' % (name, self.said_of(self.world.names[name])))
@@ -83,7 +83,7 @@ class Page:
         return handler
 
     def listened(self, operand):
-        """(thing, whether its window)."""
+        """(thing, whether its window is meant)."""
         name, window = operand.value
         return (self.thing(operand, name, (DOCUMENT,) if window else operand.form.names), window)
 
@@ -118,7 +118,7 @@ class Page:
         self.world.begun += 1
 
     def run_command(self, command):
-        """Begins and runs one command with its block; answers whether it threw."""
+        """Begins and runs one command with its block; returns whether it threw."""
         outer, self.line = self.line, command.line
         try:
             self.begin(command)
@@ -142,18 +142,18 @@ class Page:
             self.line = outer
 
     def do(self, command):
-        """A command without a block: operands, exceptions, limits, effect."""
+        """Runs a command without a block: operands, exceptions, limits, effect."""
         EFFECTS[command.name](self, command, *self.look_up_all(command))
 
     def holds(self, command):
         return CONDITIONS[command.condition](self, *self.look_up_all(command)) != command.turned
 
     def run_block(self, commands):
-        """Runs commands up to the first that throws; answers whether one did."""
+        """Runs commands, up to the first that throws; returns whether one did."""
         return any(self.run_command(command) for command in commands)
 
     def run_each(self, body):
-        """The block once for each entry of the callback."""
+        """Runs the block once for each entry of the callback."""
         outer = self.entry
         try:
             for entry in self.entries or ():
@@ -167,7 +167,7 @@ class Page:
     # --- callbacks and events -----------------------------------------------------------------------------------------------
 
     def call(self, document, handler, entries=None, lines=()):
-        """Invokes a callback of a document: tells the lines of its entries, and runs its handler, if it has one."""
+        """Invokes a callback of a document: writes the lines of its entries, and runs its handler, if it has one."""
         if document.state is not ACTIVE:
             return
         for line, about in lines:
@@ -186,7 +186,7 @@ class Page:
         self.dispatch((thing, False), event)
 
     def dispatch(self, listened, event):
-        """The listeners are copied; each that still stands at its turn is called."""
+        """Copies the listeners, and calls each that is still there at its turn."""
         thing = listened[0]
         listeners = self.world.listeners
         for listener in [known for known in listeners.get(listened, ()) if known.event == event]:

@@ -1,7 +1,7 @@
-"""The words of the command line and the statuses (docs/TRACE.md, 'Words' and 'Statuses').
+"""The arguments of the command line and the exit statuses (docs/TRACE.md, 'Words' and 'Statuses').
 
-A word's job is given the bytes of the source and what is known of the language, and answers the lines to be
-written, and the status. The whole answer is made before anything is written.
+The function for an argument is given the bytes of the source and the supported language, and returns the lines to be
+written, and the exit status. The whole answer is computed before anything is written.
 """
 import os
 import sys
@@ -12,25 +12,26 @@ from .page import Page
 
 DONE, SYNTAX, LIMIT, NO_MEMORY, READ_FAULT, WRITE_FAULT, USAGE, DIFFERS = range(8)
 
-HELP = '''tools/reference/replay [WORDS] < SCRIPT
+HELP = '''Usage: tools/reference/replay [ARGUMENTS] < SCRIPT
 
-The rules of docs/ as a second, plain program. It writes what the proved program writes, with the same status:
+The reference program, a second implementation of the rules in docs/. It writes what the proved program, bin/replay, writes, and
+exits with the same status.
 
-  (none)             replays the script, and writes its trace
-  --check            writes ok and how many commands the script has
-  --lint             says whether the resize loops are steady and quiet, or the first line that may spoil it (docs/LOOPS.md)
-  --summary          replays the script, and writes how many lines of each kind its trace has
-  --inspect K        writes each box as the K-th tick ends, and what is seen of it
-  --hit K X Y        writes what lies below a point of the viewport as the K-th tick ends, the uppermost first
-  --judge            compares a trace that was recorded, behind a line `trace`, with the script's (docs/CONFORMANCE.md)
-  --pages            runs several scripts of one stream, in which a line `page NAME` says whose the next lines are
-  --generate N       writes the script of a number, 0 to 1000000: a list of lazily loaded cards
-  --generate-run N   replays the script of a number, and writes its summary
+Without arguments, it replays the script and writes its trace. With arguments, which are one of these, it writes instead:
+  --check            ok and the number of the script's commands
+  --lint             whether the resize loops are steady and quiet, or the first line that may prevent it (docs/LOOPS.md)
+  --summary          how many lines of each kind the script's trace has
+  --inspect K        each box at the end of the script's K-th tick (1 to 1000000), with the part of it that is visible
+  --hit K X Y        the elements at a point of the viewport at the end of that tick, topmost first; X and Y as in 5px or -0.5px
+  --judge            whether the recorded trace after a line `trace` is that of the script before it (docs/CONFORMANCE.md)
+  --pages            the traces of several pages; in standard input, a line `page NAME` says whose script the next lines belong to
+  --generate N       the script with the number N (0 to 1000000), a list of lazily loaded cards; standard input isn't read
+  --generate-run N   the summary of that script's trace; standard input isn't read
 '''
 
 
 class Refused(Exception):
-    """A text that is no script, or meets a limit of texts; or one line to be written in place of the answer."""
+    """A text isn't a script, or meets a limit on texts, or a single line is to be written instead of the answer."""
 
     def __init__(self, status, line):
         Exception.__init__(self, status, line)
@@ -71,7 +72,7 @@ def lint_script(text, language):
 
 
 def _page_after(text, language, ticks):
-    """The page as the tick of this number ends."""
+    """The page at the end of the tick with this number."""
     lines = []
     script = read_script(text, language)
     page = Page(script, lambda line, script_line, about: lines.append(line))
@@ -113,7 +114,7 @@ def pages(text, language):
     return lines, SYNTAX if 'syntax' in endings else LIMIT if 'limit' in endings else DONE
 
 
-# --- the table of words -----------------------------------------------------------------------------------------------------
+# --- the table of arguments -------------------------------------------------------------------------------------------------
 
 _WORDS_ALONE = {'--check': check, '--summary': summary, '--lint': lint_script, '--judge': judge_trace, '--pages': pages}
 
@@ -124,7 +125,7 @@ def _whole(word, least, most):
 
 
 def plan(words):
-    """(whether the source is read, the job on its bytes), or None for words of none of the forms."""
+    """(whether the source is read, the function for its bytes), or None for unknown arguments."""
     if not words:
         return True, replay
     if len(words) == 1 and words[0] in _WORDS_ALONE:
@@ -151,7 +152,7 @@ def _plan_generated(word, number):
 
 
 def answer(words, read, language=grammar.WHOLE):
-    """(lines, status); `read` gives the bytes of the source."""
+    """(lines, exit status); `read` returns the bytes of the source."""
     planned = plan(words)
     if planned is None:
         return [], USAGE

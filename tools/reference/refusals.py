@@ -2,7 +2,7 @@
 
 
 class Throw(Exception):
-    """A command throws. The operand is the one at fault, or None; the sentence says why."""
+    """A command throws. `operand` is the operand at fault, or None; `sentence` says why."""
 
     def __init__(self, kind, operand, sentence):
         Exception.__init__(self, kind, operand, sentence)
@@ -10,7 +10,7 @@ class Throw(Exception):
 
 
 class Limit(Exception):
-    """A command meets a limit. The line is filled in by the command that met it; `parent` is told of `depth` alone."""
+    """A command meets a limit. The line is set by the command that met it; `parent` is given only for `depth`."""
 
     def __init__(self, kind, number, parent=None):
         Exception.__init__(self, kind, number)

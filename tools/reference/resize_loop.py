@@ -5,7 +5,7 @@ from .world import ACTIVE, depth
 
 
 class ResizeEntry:
-    """What one callback is told of one target, as it is then."""
+    """An entry for a callback: a target with its sizes at that moment."""
     __slots__ = ('target', 'corner', 'content', 'border', 'device')
 
     def __init__(self, layout, target):
@@ -15,7 +15,7 @@ class ResizeEntry:
 
 
 class Skipped:
-    """An observation that a loop left, as it was then."""
+    """An observation that a loop left undelivered, as it was then."""
 
     def __init__(self, observer, observation, size, depth_):
         self.observer, self.observation, self.size, self.depth = observer, observation, size, depth_
@@ -23,14 +23,14 @@ class Skipped:
 
 
 class LoopError:
-    """What a loop left behind that ends with the error event, and the depth that its last round reached."""
+    """What a loop that ends with the error event left undelivered, and the depth that its last round reached."""
 
     def __init__(self, document, depth_reached, skipped):
         self.document, self.depth_reached, self.skipped = document, depth_reached, skipped
 
 
 def gather(page, document, least):
-    """Sorts what is active: deeper than this it waits to be delivered, else it is skipped; answers whether something waits."""
+    """Gathers active observations: those deeper than this wait to be delivered, others are skipped; returns whether any wait."""
     layout = page.world.layout
     for observer in document.resize_observers:
         observer.active, observer.skipped = [], []
@@ -42,10 +42,10 @@ def gather(page, document, least):
 
 
 def broadcast(page, document):
-    """Tells each observer what waits for it; answers the least depth delivered, or None where the document ended."""
+    """Calls back each observer with what waits for it; returns the least depth delivered, or None if the document ended."""
     least = None
     place = 0
-    while place < len(document.resize_observers):     # a callback may make observers
+    while place < len(document.resize_observers):     # a callback may create observers
         observer = document.resize_observers[place]
         place += 1
         if not observer.active:
@@ -59,7 +59,7 @@ def broadcast(page, document):
 
 
 def _deliver(page, observer):
-    """One callback with an entry for each active observation; answers the least depth of their targets."""
+    """Calls back once, with an entry for each active observation; returns the least depth of their targets."""
     layout = page.world.layout
     standing = {observation.number for observation in observer.observations.values()}
     entries, depths = [], []

@@ -1,12 +1,13 @@
-"""Cuts a script down to fewer lines of which something still holds: first many at a time, then one by one, blocks whole or
-opened; at last single words are left out, or give way to simpler ones, so that more lines can go.
+"""Reduces a script to fewer lines for which something still holds: it leaves out lines, first many at a time, then one by
+one, and blocks as a whole or only their first and last lines; finally it leaves out single words, or replaces them with
+simpler ones, so that more lines can be left out.
 """
 
 _MOST_LINES_FOR_SIMPLER_WORDS = 60
 _SIMPLER_NAMES = 4
 
 def shrunk(text, holds):
-    """`holds` says of the bytes of a script whether it is still of use; of `text` it must hold."""
+    """The reduced script; `holds` says whether the bytes of a script still have the property, which `text` must have."""
     lines = text.split(b'\n')
     before = None
     while before != lines:
@@ -17,7 +18,7 @@ def shrunk(text, holds):
 
 
 def _unit_end(lines, start):
-    """The place behind the unit that begins there: a line, or a handler or block with its `end`."""
+    """The place after the unit that begins there: a line, or a handler or block with its `end`."""
     open_ = 0
     for place in range(start, len(lines)):
         words = lines[place].split()
@@ -29,7 +30,7 @@ def _unit_end(lines, start):
 
 
 def _units(lines):
-    """The (start, end) of each unit that stands in no other."""
+    """The (start, end) of each outermost unit."""
     units, start = [], 0
     while start < len(lines):
         end = _unit_end(lines, start)
@@ -39,7 +40,7 @@ def _units(lines):
 
 
 def _without_runs(lines, holds):
-    """Runs of units left out, long runs first."""
+    """Leaves out runs of units, long runs first."""
     size = len(lines) // 2
     while size > 1:
         units = _units(lines)
@@ -53,7 +54,7 @@ def _without_runs(lines, holds):
 
 
 def _without_units(lines, holds):
-    """Each unit left out, the inner ones too; a handler or block that must stay is tried without its first and last line."""
+    """Leaves out each unit, inner ones too; a handler or block that must stay is tried without its first and last lines."""
     for start in range(len(lines) - 1, -1, -1):
         if start >= len(lines):
             continue
@@ -80,7 +81,7 @@ def _without_words(lines, holds):
 
 
 def _with_simpler_words(lines, holds):
-    """Each name exchanged for `-`, `top` or one of the names that are given first."""
+    """Replaces each name with `-`, `top` or one of the first names that are created."""
     if len(lines) > _MOST_LINES_FOR_SIMPLER_WORDS:
         return lines
     names = [b'-', b'top']

@@ -1,6 +1,6 @@
-"""Several pages in one stream, each apart from the others (`--pages`).
+"""Several independent pages in one stream (`--pages`).
 
-A line `page NAME` says whose the lines behind it are, up to the next one.
+A line `page NAME` says which page the lines after it belong to, up to the next such line.
 """
 import re
 
@@ -15,7 +15,7 @@ _PAGE = re.compile(rb'page ([A-Za-z][A-Za-z0-9_-]{0,31})\Z')
 
 
 class Refused(Exception):
-    """The stream is none; the line says why."""
+    """The text isn't a stream of pages; the line says why."""
 
     def __init__(self, line):
         Exception.__init__(self, line)
@@ -29,7 +29,7 @@ def _without_ending(line):
 
 
 def split(text):
-    """Each page's name with its lines, and for each of these the number of the stream's line."""
+    """The name of each page, with its lines and their numbers in the stream."""
     if len(text) > MOST_SCRIPT:
         raise Refused('limit script %d %d' % (1 + text.count(b'\n', 0, MOST_SCRIPT), MOST_SCRIPT))
     pages, current = {}, None
@@ -50,7 +50,7 @@ def split(text):
 
 
 def run(text, language):
-    """The lines written, each with its page's name before it, and whether a page was no script or met a limit."""
+    """The output lines, each preceded by its page's name, and whether a page wasn't a script or met a limit."""
     written, endings, waiting = [], set(), []
     for name, lines in split(text).items():
         def write(line, script_line=0, about=None, name=name):

@@ -1,6 +1,6 @@
-"""Style properties and their values (docs/SCRIPT.md, 'Style properties'); `position` and the insets are of version 2.
+"""Style properties and their values (docs/SCRIPT.md, 'Style properties'); only version 2 has `position` and the insets.
 
-A form of values says how docs/SCRIPT.md writes it and answers None for a word that isn't of it.
+A form of values says how docs/SCRIPT.md writes it, and returns None for a word that doesn't have it.
 """
 from .lengths import AUTO, NONE, read_length, read_percent, read_signed, read_signed_percent
 
@@ -10,7 +10,7 @@ ZERO = ('px', 0)
 
 
 class Values:
-    """What may stand as a property's value: keywords, and lengths and percentages by their readers."""
+    """The values that a property may have: keywords, and lengths and percentages by their readers."""
 
     def __init__(self, *keywords, lengths=None, percents=None):
         self.keywords, self.lengths, self.percents = keywords, lengths, percents
@@ -27,7 +27,7 @@ class Values:
         return None if hundredths is None else ('%', hundredths)
 
     def forms(self):
-        """The names of what may stand there, as docs/SCRIPT.md has them."""
+        """The names of the allowed values, as in docs/SCRIPT.md."""
         names = ['`%s`' % keyword for keyword in self.keywords]
         if self.lengths:
             names.append('SIGNED' if self.lengths is read_signed else 'LENGTH')
@@ -44,7 +44,7 @@ _INSET = Values(AUTO, lengths=read_signed, percents=read_signed_percent)
 
 
 class Property:
-    """The style's fields that a property sets, its values, and the version of the language that it is in from then on."""
+    """The style's fields that a property sets, its values, and the first version of the language that has it."""
 
     def __init__(self, fields, values, version=1):
         self.fields, self.values, self.version = fields, values, version
@@ -86,5 +86,5 @@ FIRST_VALUES = _first_values()
 
 
 def known(version, without=()):
-    """The names of the properties of a version of the language, but these."""
+    """The names of the properties of a version of the language, except those in `without`."""
     return [name for name, row in PROPERTIES.items() if row.version <= version and name not in without]

@@ -1,4 +1,4 @@
-"""The lines of a trace (docs/TRACE.md): their texts, and which bytes are one."""
+"""The lines of a trace (docs/TRACE.md): their texts, and whether bytes are such a line."""
 import re
 
 from .lengths import px, rectangle_text
@@ -8,7 +8,7 @@ LOOP_ERROR = 'ResizeObserver loop completed with undelivered notifications.'
 
 KINDS = ('tick', 'timer', 'frame', 'task', 'event', 'resize', 'round', 'intersect', 'take', 'say', 'read', 'throw', 'limit',
          'syntax')
-LIMITS = ('script', 'line', 'handlers', 'nesting', 'recorded', 'pages', *MOST[2])         # those of texts, and those of pages
+LIMITS = ('script', 'line', 'handlers', 'nesting', 'recorded', 'pages', *MOST[2])         # limits on texts, and limits on pages
 THROWS = ('ReferenceError', 'TypeError', 'HierarchyRequestError', 'NotFoundError', 'SyntaxError', 'RangeError')
 
 
@@ -47,7 +47,7 @@ def _below(bits):
 
 
 def _units(text):
-    """The units of a text that `px` writes, or None."""
+    """The units of a text that `px` gives, or None if it gives no such text."""
     whole, _, rest = text.lstrip('-').partition('.')
     units = int(whole) * 64
     if rest:
@@ -106,7 +106,7 @@ _COMPILED = [(re.compile(form + r'\n\Z'), test) for form, test in _FORMS]
 
 
 def is_line(text):
-    """Whether these bytes, the line feed included, are the text of a trace line of one of the two versions."""
+    """Whether these bytes, including the line feed, are the text of a trace line in one of the two versions."""
     try:
         decoded = text.decode('ascii')
     except UnicodeDecodeError:

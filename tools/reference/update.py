@@ -20,7 +20,7 @@ def tick(page, command, time):
 
 
 def update_the_rendering(page):
-    """Each part goes over the documents that are Active as the update begins, while they still are, before the next part."""
+    """Runs each part for all documents that are Active as the update begins and still are at their turn, then the next part."""
     documents = page.world.active_documents()
     for part in (_resize_steps, _scroll_steps, _media_steps, _frame_callbacks, resize_loop.run, _intersections):
         for document in documents:
@@ -34,7 +34,7 @@ def _run_timers(page):
            for key, callback in held.items() if callback.due <= world.clock]
     for _, number, document, key in sorted(due, key=lambda timer: timer[:2]):
         callback = world.timers[document].get(key)
-        if callback is None or callback.number != number:     # cleared meanwhile, or another one
+        if callback is None or callback.number != number:     # cleared in the meantime, maybe replaced
             continue
         del world.timers[document][key]
         world.timers_held -= 1
@@ -64,7 +64,7 @@ def _scroll_steps(page, document):
 def _media_steps(page, document):
     world = page.world
     place = 0
-    while place < len(world.query_lists):             # a listener may make lists
+    while place < len(world.query_lists):             # a listener may create lists
         queries = world.query_lists[place]
         place += 1
         if queries.document is not document:
@@ -83,7 +83,7 @@ def _frame_callbacks(page, document):
         if document.state is not ACTIVE:
             return
         callback = world.frame_callbacks[document].get(key)
-        if callback is None or callback.number != asked.number:   # cancelled meanwhile, or another one
+        if callback is None or callback.number != asked.number:   # cancelled in the meantime, maybe replaced
             continue
         del world.frame_callbacks[document][key]
         world.frame_callbacks_held -= 1
@@ -109,7 +109,7 @@ def _run_tasks(page):
 
 
 def _notify(page, document):
-    """Hands each intersection observer of a document its queue, if there is something in it."""
+    """Hands each intersection observer of a document its queue, unless that is empty."""
     if document.state is not ACTIVE:
         return
     document.notify_queued = False

@@ -1,7 +1,7 @@
-"""Scripts with what they give, worked out by hand from the rules: those of the tables of crates/run_tests, which the proved program is
-tested with there, and others. In a text ` / ` stands for a line feed.
+"""Scripts with their output, worked out by hand from the rules: those of the tables in crates/run_tests, with which the proved program is
+tested there, and others. In a text, ` / ` stands for a line feed.
 
-Of a case of a limit only the last line is given: one script goes one past the number, and one stays at it and goes on.
+For a limit, only the last line of the output is given: one script exceeds the number by one, and one reaches it exactly and goes on.
 """
 import os
 import re
@@ -12,7 +12,7 @@ CASES = []
 
 
 class Case:
-    """`last` says that `wanted` is the last line alone, `version` of which version of the language the script is."""
+    """`last` says that `wanted` is only the last line; `version` is the version of the language of the script."""
 
     def __init__(self, name, script, wanted, status=0, words=(), last=False):
         self.name, self.script, self.wanted, self.status, self.words, self.last = name, script, wanted, status, words, last
@@ -30,13 +30,13 @@ def case(name, script, wanted, status=0, words=(), last=False):
 
 
 def cases_of_the_table(name):
-    """Of a table of pairs in crates/run_tests: a script and what it gives. An entry may be the name of another table."""
+    """The cases of a table in crates/run_tests: pairs of a script and its output. An entry may be the name of another table."""
     with open(TABLES) as file:
         count, body = re.search(r'^pub\(crate\) const %s: (?:\[\(&str, &str\); ([0-9]+)\]|\(&str, &str\)) = [\[(]\n(.*?)\n[\])];' % name,
                                 file.read(), re.M | re.S).groups()
     texts = [text.encode().decode('unicode_escape') for text in re.findall(r'"((?:[^"\\]|\\.)*)"', body)]
     if len(texts) % 2 or len(texts) // 2 + len(re.findall(r'^ +[A-Z_]+,$', body, re.M)) != int(count or 1):
-        raise ValueError('%s in %s: not as many pairs as its type says' % (name, TABLES))
+        raise ValueError('%s in %s: the number of pairs differs from its type' % (name, TABLES))
     for number, (script, wanted) in enumerate(zip(texts[::2], texts[1::2]), 1):
         CASES.append(Case('%s, pair %d' % (name, number), script.encode(), wanted, 1 if wanted.startswith('syntax') else 0, [], False))
 
@@ -47,7 +47,7 @@ for table in ('RUNS', 'GROWING', 'REFUSED'):
 ROOT = 'script 1 / block r top / append top r'
 ONE_BLOCK = ROOT + ' / ro o top - / ro-observe o r content / tick 0'
 ONE_BLOCK_TRACE = 'tick 0 / resize o r rect 0 0 800 0 border 800 0 / round top 1'
-case('a block is told once', ONE_BLOCK, ONE_BLOCK_TRACE)
+case('a block is reported once', ONE_BLOCK, ONE_BLOCK_TRACE)
 GROWING = ('script 1 / handler more / grow c height 1px / end / block r top / append top r / block p top / append r p / '
            'block c top / set c height 10px / append p c / ro o top more / ro-observe o p content / ro-observe o c content / '
            'tick 0 / tick 16')
@@ -73,7 +73,7 @@ def endless_trace():
 
 case('a loop that moves its target meets the limit of commands', ENDLESS, endless_trace(), 2)
 
-# --- words of the command line ----------------------------------------------------------------------------------------------
+# --- arguments of the command line ------------------------------------------------------------------------------------------
 
 case('a generated script is counted', b'',
      'tick 5 / timer 0 / frame 0 / task 0 / event 4 / resize 1 / round 1 / intersect 540 / take 0 / say 0 / read 0 / throw 0 / '
@@ -87,7 +87,7 @@ case('a script is generated', b'',
      'scroll top 0px 60000px / tick 64', words=['--generate', '0'])
 case('a word too many is refused', ONE_BLOCK, '', 6, ['--check', 'x'])
 case('commands are counted', ONE_BLOCK, 'ok 5', words=['--check'])
-case('no script is no commands', '', 'syntax 1 1', 1, ['--check'])
+case('an empty text is not a script', '', 'syntax 1 1', 1, ['--check'])
 case('lines are counted', GROWING,
      'tick 2 / timer 0 / frame 0 / task 0 / event 2 / resize 6 / round 4 / intersect 0 / take 0 / say 0 / read 0 / throw 0 / '
      'limit 0 / syntax 0', words=['--summary'])
@@ -96,7 +96,7 @@ case('lines are counted', GROWING,
 
 
 def chain():
-    """Blocks in one another, each a hundred times as wide as the one before, and one too many."""
+    """Nested blocks, each a hundred times as wide as the one around it, and one more than allowed."""
     written, parent = ['script 1'], 'top'
     for number in range(1, 257):
         written += ['block e%d top' % number, 'set e%d width 10000%%' % number, 'append %s e%d' % (parent, number)]
@@ -109,7 +109,7 @@ def numbered(form, count):
 
 
 def limit(name, made, wanted, number):
-    """`made(n)` are the lines behind the first one that make n of what is counted."""
+    """`made(n)` are the lines after the first that create n of what is counted."""
     case('one past the limit of ' + name, ' / '.join(['script 1'] + made(number + 1)), wanted, 2, last=True)
     case('at the limit of ' + name, ' / '.join(['script 1'] + made(number) + ['say on']), 'say on', last=True)
 
@@ -134,7 +134,7 @@ limit('handlers', lambda count: [line for number in range(1, count + 1) for line
 case('one past the limit of nesting', ' / '.join(['script 1'] + ['when attached top'] * 17), 'limit nesting 18 16', 2, last=True)
 case('at the limit of nesting', ' / '.join(['script 1', 'block b top'] + ['when not attached b'] * 16 + ['say on']
                                            + ['end'] * 16), 'say on', last=True)
-case('a chain is 256 deep at most, and no width is above the greatest', chain(),
+case('a chain has a depth of at most 256, and no width exceeds the maximum', chain(),
      'read e256 0 0 33554431.984375 0 0 0 / limit depth 772 256', 2)
 limit('nodes', lambda count: numbered('block b%k top', count), 'limit nodes 20002 20000', 20000)
 limit('documents', lambda count: numbered('frame f%k top d%k', count), 'limit documents 65 64', 63)
@@ -158,18 +158,18 @@ limit('queries', lambda count: numbered('media m%k top all', count), 'limit quer
 # --- positions --------------------------------------------------------------------------------------------------------------
 
 ROOT_2 = 'script 2 / block r top / append top r'
-case('an absolute position is in the padding box of its holder',
+case('an absolute box is placed in the padding box of its containing block',
      ROOT_2 + ' / block s top / set s height 100px / set s margin-left 100px / set s position relative / append r s / '
      'block a top / set a position absolute / set a right 10px / set a top 20px / set a width 50% / set a height 30px / '
      'append s a / read a / set s position static / read a / read r',
      'read a 440 20 350 30 0 0 / read a 390 20 400 30 0 0 / read r 0 0 800 100 0 0')
-case('what is out of flow is clipped by its holder',
+case('an out-of-flow box is clipped by its containing block',
      ROOT_2 + ' / block s top / set s height 50px / set s overflow hidden / append r s / block a top / '
      'set a position absolute / set a top 200px / set a width 10px / set a height 10px / append s a / '
      'io i top - root - margin threshold 0 / io-observe i a / tick 0 / set s position relative / tick 16',
      'tick 0 / intersect i a 0 yes 409600/409600 root 0 0 800 600 box 0 200 10 10 cut 0 200 10 10 / tick 16 / '
      'intersect i a 16 no 0/409600 root 0 0 800 600 box 0 200 10 10 cut 0 0 0 0')
-case('a fixed position stays as the page scrolls',
+case('a fixed box stays in place when the page scrolls',
      ROOT_2 + ' / block s top / set s height 2000px / append r s / block f top / set f position fixed / set f bottom 0px / '
      'set f width 100px / set f height 40px / append r f / scroll top 0px 500px / read f / read s',
      'read f 0 560 100 40 0 0 / read s 0 -500 800 2000 0 0')
@@ -177,28 +177,27 @@ case('a root element has no position',
      'script 2 / block a top / set a position absolute / set a left 10px / append top a / read a / remove a / block r top / '
      'append top r / append r a / read a', 'read a 0 0 800 0 0 0 / read a 10 0 790 0 0 0')
 
-# --- words ------------------------------------------------------------------------
-
+# --- other arguments --------------------------------------------------------------------------------------------------------
 case('boxes are listed', SCROLLED,
      'box r 1 0 0 800 100 seen 0 0 800 100 / box s 2 0 0 800 100 seen 0 0 800 100 / box u 3 0 -210 800 300 seen 0 0 800 90 / '
      'box t 3 0 90 800 10 seen 0 90 800 10', words=['--inspect', '2'])
-case('what lies below a point', SCROLLED, 'hit t / hit s / hit r', words=['--hit', '2', '5px', '95px'])
-case('what is clipped lies nowhere', SCROLLED, 'miss', words=['--hit', '1', '5px', '305px'])
-case('ticks that there are not', SCROLLED, 'ticks 2', words=['--inspect', '3'])
+case('the elements at a point', SCROLLED, 'hit t / hit s / hit r', words=['--hit', '2', '5px', '95px'])
+case('a clipped part is not hit', SCROLLED, 'miss', words=['--hit', '1', '5px', '305px'])
+case('a tick that does not exist', SCROLLED, 'ticks 2', words=['--inspect', '3'])
 case('a script without loop handlers is quiet', ONE_BLOCK, 'steady / quiet', words=['--lint'])
 case('a handler that grows its target is not quiet', GROWING, 'steady / unquiet 3', words=['--lint'])
 case('a handler that sets a size is not quiet', SET_BACK, 'steady / unquiet 3', words=['--lint'])
 case('a handler that removes is not steady', ENDLESS, 'unsteady 4 / unquiet 3', words=['--lint'])
 case('a trace is the same', ONE_BLOCK + ' / trace / ' + ONE_BLOCK_TRACE, 'equal 3', words=['--judge'])
-case('a trace has a line more', ONE_BLOCK + ' / trace / ' + ONE_BLOCK_TRACE + ' / tick 16', 'differs 4 extra', 7, ['--judge'])
+case('a trace has an extra line', ONE_BLOCK + ' / trace / ' + ONE_BLOCK_TRACE + ' / tick 16', 'differs 4 extra', 7, ['--judge'])
 case('a trace lacks lines', ONE_BLOCK + ' / trace / tick 0', 'differs 2 missing', 7, ['--judge'])
-case('a trace has what is no line', ONE_BLOCK + ' / trace / tick 0 / hello', 'differs 2 not-a-line', 7, ['--judge'])
-case('a trace has another line', ONE_BLOCK + ' / trace / tick 0 / resize o r rect 0 0 800 1 border 800 0 / round top 1',
+case('a trace has a line that is not one', ONE_BLOCK + ' / trace / tick 0 / hello', 'differs 2 not-a-line', 7, ['--judge'])
+case('a trace has a different line', ONE_BLOCK + ' / trace / tick 0 / resize o r rect 0 0 800 1 border 800 0 / round top 1',
      'differs 2 text 25', 7, ['--judge'])
 case('an empty source has no trace', '', 'differs 1 missing', 7, ['--judge'])
-case('pages of a stream are apart',
+case('pages of a stream are independent',
      'page a / script 1 / page b / script 1 / page a / block r top / append top r / tick 5 / page b / remove z / tick 3 / '
      'page a / tick 9', 'a tick 5 / b throw 2 ReferenceError / b tick 3 / a tick 9', words=['--pages'])
-case('a page that is no script', 'page a / script 1 / bad / page b / script 1 / tick 0', 'a syntax 2 1 / b tick 0', 1,
+case('a page that is not a script', 'page a / script 1 / bad / page b / script 1 / tick 0', 'a syntax 2 1 / b tick 0', 1,
      ['--pages'])
 case('a stream begins with a page', 'tick 0', 'syntax 1 1', 1, ['--pages'])

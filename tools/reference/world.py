@@ -1,8 +1,8 @@
-"""What there is at a moment: documents, elements, observers, query lists, listeners, timers, frame callbacks and tasks; and
-the edits of the tree (the rules 'Tree' and 'Documents' of docs/RULES.md; DOM, 4.2.3 and 4.5; HTML, 4.8.5 and 7.3).
+"""The state at a moment: documents, elements, observers, query lists, listeners, timers, frame callbacks and tasks; and the
+edits of the tree (the rules 'Tree' and 'Documents' of docs/RULES.md; DOM, 4.2.3 and 4.5; HTML, 4.8.5 and 7.3).
 
-Of the layout nothing is kept but what one state of the world was asked: `changed` throws all of it away, `scrolled` what
-hangs on scroll offsets. Each thing remembers the line of the command that made it, for explanations.
+Layout is only cached for one state of the world: `changed` discards all of it, `scrolled` what depends on scroll offsets.
+Each thing has the line of the command that created it, for explanations.
 """
 from . import styles
 from .forms import DOCUMENT, ELEMENT, INTERSECTION_OBSERVER, QUERY_LIST, RESIZE_OBSERVER
@@ -42,14 +42,14 @@ class Document:
         self.name, self.line, self.state, self.frame = name, line, state, frame
         self.root = None
         self.scroll = (0, 0)
-        self.noted_size = None            # of the viewport, at the last resize steps
+        self.noted_size = None            # the viewport's at the last resize steps
         self.pending_scrolls = []
         self.notify_queued = False
-        self.resize_observers = []        # in order of making
+        self.resize_observers = []        # in order of creation
 
 
 class Observation:
-    """Of a resize observer. `told` says whether its size was ever reported."""
+    """An observation of a resize observer. `told` says whether a size has been reported."""
 
     def __init__(self, number, line, target, box):
         self.number, self.line, self.target, self.box = number, line, target, box
@@ -66,7 +66,7 @@ class ResizeObserver:
 
 
 class Registration:
-    """Of a target at an intersection observer, with the index and the meeting that were found last."""
+    """A target of an intersection observer, with the index and whether it intersects that were found last."""
 
     def __init__(self, target, line):
         self.target, self.line = target, line
@@ -117,8 +117,8 @@ class World:
         self.viewport_size = (800 * 64, 600 * 64)
         self.pixel_ratio = 10000          # in hundredths of a percent
         self.clock = 0
-        self.begun = 0                    # commands
-        self.numbers = 0                  # given to observations, listeners and callbacks
+        self.begun = 0                    # commands begun
+        self.numbers = 0                  # numbers given to observations, listeners and callbacks
         self.top = Document('top', None, ACTIVE, None)
         self.documents = [self.top]
         self.names = {'top': self.top}
@@ -160,7 +160,7 @@ class World:
     # --- the tree -----------------------------------------------------------------------------------------------------------
 
     def insert(self, parent, node, sibling=None):
-        """Puts a node last below a parent, before a sibling, or at a document as its root element; adopts what lies in it."""
+        """Inserts a node as the last child of a parent, before a sibling, or as a document's root element; adopts its subtree."""
         if sibling is node:
             place = parent.children.index(node) + 1
             sibling = parent.children[place] if place < len(parent.children) else None
@@ -179,7 +179,7 @@ class World:
         self.changed()
 
     def remove(self, node):
-        """Takes a node out of where it stands; documents of frames in it die."""
+        """Removes a node from its parent or document; documents of frames in it become Dead."""
         where = tree_document(node)
         if node.parent is not None:
             node.parent.children.remove(node)
@@ -194,7 +194,7 @@ class World:
         self.changed()
 
     def active_documents(self):
-        """In preorder of the tree of frames, the frames of one document in the order of its tree."""
+        """The Active documents in preorder of the tree of frames, the frames of one document in tree order."""
         found, waiting = [], [self.top]
         while waiting:
             document = waiting.pop()
@@ -206,7 +206,7 @@ class World:
 
 
 def _change_framed(node, before, after):
-    """The documents of frames in this subtree go from one state to another, and in turn those in their trees."""
+    """Changes the state of the documents of frames in this subtree, and in turn of those in their trees."""
     waiting = [node]
     while waiting:
         for inner in preorder(waiting.pop()):
@@ -229,7 +229,7 @@ def depth(node):
 
 
 def height(node):
-    """The number of elements on the longest way down, both ends counted."""
+    """The number of elements on the longest path down, both ends included."""
     levels, level = 0, [node]
     while level:
         levels += 1
@@ -238,7 +238,7 @@ def height(node):
 
 
 def tree_document(node):
-    """The document in whose tree the node stands, or None."""
+    """The document whose tree the node is in, or None."""
     while node.parent is not None:
         node = node.parent
     return node.root_of

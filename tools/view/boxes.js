@@ -1,10 +1,10 @@
 'use strict';
-// The boxes of a tick, unpacked from differences (boxes.py says how they are packed), with clips, seen parts, hits and changes.
+// The boxes of a tick, unpacked from differences (boxes.py says how they are packed), with clips, visible parts, hits and changes.
 // All numbers are units of 1/64 px; rectangles are [left, top, right, bottom] in the coordinates of `top`'s viewport.
 
 const UNITS = 64;
-const WHOLE = 10000;             // the ratio of device pixels at first, in hundredths of a percent
-const KEPT_EVERY = 50;           // ticks of which the packed boxes are kept as they are
+const WHOLE = 10000;             // the initial device pixel ratio, in hundredths of a percent
+const KEPT_EVERY = 50;           // one step in so many is kept whole
 const ON_PAGE = -1, ON_SCREEN = -2;
 const NO_EDGES = [0, 0, 0, 0, 0, 0, 0, 0];
 
@@ -30,7 +30,7 @@ class States {
     this.unpacked = new Map();
     this.framed = new Map(data.documents.map((document, number) => [document[2], number]));
   }
-  // The boxes as this step ends, or null where they were left out.
+  // The boxes at the end of this step, or null if they were left out.
   at(place) {
     if (place < 0 || !this.data.steps[place] || !this.data.steps[place].boxes) return null;
     if (!this.unpacked.has(place)) {
@@ -66,8 +66,8 @@ function applied(state, difference) {
   return state;
 }
 
-// One moment. `boxes` has a record for each element with a box, `reasons` why another one has none; `order` is the tree as it is listed:
-// documents and elements with their levels.
+// The boxes at one moment. `boxes` has a record for each element with a box, `reasons` says why any other has none; `order` is the tree
+// as it is listed: documents and elements with their levels.
 class Boxes {
   constructor(packed, framed, data) {
     Object.assign(this, { packed, framed, data, boxes: new Map(), reasons: new Map(), order: [], viewports: [], parents: new Map() });
@@ -76,7 +76,7 @@ class Boxes {
   }
   name(element) { return this.data.elements[element][0]; }
   get ratio() { return this.packed.ratio; }
-  // A side of a content box in device pixels: to the nearest whole number, a half upwards.
+  // A side of a content box in device pixels: rounded to the nearest whole number, halves up.
   devicePixels(units) { return Math.floor((units * this.ratio + UNITS * WHOLE / 2) / (UNITS * WHOLE)); }
   document(number, viewport, window, level) {
     const [root, left, top, most, mostDown] = this.packed.documents.get(number);
@@ -114,7 +114,7 @@ class Boxes {
       origin: document.viewport, depth: document.depth, holder: holder || 0, record });
     this.cornersOf(element, corners);
   }
-  // Where the boxes in an element are counted from: its parent's edge, and the bottom of the sibling before it.
+  // The points from which the boxes in an element are measured: its parent's edge, and the bottom of the sibling before it.
   cornersOf(element, corners) {
     const { rectangle, scroll } = this.boxes.get(element);
     const left = rectangle[0] - (scroll ? scroll[0] : 0);
@@ -125,7 +125,7 @@ class Boxes {
       if (typeof record !== 'string') top += record[1] + record[3];
     }
   }
-  // What clips an element on its way to the viewport of `top`, the nearest first: what it is, its rectangle, and what is left behind it.
+  // What clips an element between it and the viewport of `top`, nearest first: what it is, its rectangle, and what it leaves.
   clips(element) {
     const found = [];
     let box = this.boxes.get(element), left = box.rectangle;
@@ -141,7 +141,7 @@ class Boxes {
       box = this.boxes.get(frame);
     }
   }
-  // The elements that are seen at a point, the uppermost first.
+  // The elements that are visible at a point, topmost first.
   hits(x, y) {
     const found = [];
     for (const { element } of this.order) {
@@ -159,7 +159,7 @@ function inset(rectangle, edges, layers) {
   return [rectangle[0] + by(3), rectangle[1] + by(0), rectangle[2] - by(1), rectangle[3] - by(2)];
 }
 
-// What is another in a box: words, of which the first say most. A box that only goes along with what it stands in or behind has `along`.
+// What changed in a box, in words, the most telling first. A box that only moved along with what it is in or after has `along`.
 function changesOf(element, before, after) {
   const old = before.boxes.get(element), now = after.boxes.get(element), words = [];
   if (!old && !now) return words;

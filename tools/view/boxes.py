@@ -1,8 +1,8 @@
-"""The boxes of a world at one moment, which is the reference's layout of it: `state` is the one place where they come from.
+"""The boxes of a world at one moment, from the reference's layout: all of them come from `state`.
 
-A state is packed so that a tick changes little of it. A box stands relative to what it follows: across to its parent's left edge
-and down to the bottom of the sibling before it, or to its parent's top edge, both as far as the parent is scrolled. So of a list
-that is scrolled the list alone changes, and of one in which a card grows that card. `Unpacked` unpacks it, and boxes.js too.
+A state is packed so that a tick changes little of it. The position of a box is relative: horizontally to its parent's left edge, and
+vertically to the bottom of the sibling before it, or else to its parent's top edge, less the parent's scroll offset. So if a list is
+scrolled, only the list changes, and if a card in it grows, only that card. `Unpacked` unpacks a state, and so does boxes.js.
 All numbers are units of 1/64 pixel.
 """
 from reference import lengths
@@ -10,10 +10,10 @@ from reference.layout import PAGE, SCREEN
 from reference.world import ACTIVE
 
 MOST_BOXES = 5000
-WHOLE = 10000                      # the ratio at first
+WHOLE = 10000                      # the initial ratio
 NO_EDGES = (0,) * 8
 ON_PAGE, ON_SCREEN = -1, -2
-SCROLL, HOLDER = 6, 7              # places in a record
+SCROLL, HOLDER = 6, 7              # indices in a record
 
 
 class Things:
@@ -36,17 +36,17 @@ class Things:
 
 
 class State:
-    """Of the elements and documents that are shown, by their numbers.
+    """The elements and documents that are shown, by their numbers.
 
     viewport    the size of the viewport of `top`
-    ratio       of device pixels, in hundredths of a percent
+    ratio       the device pixel ratio, in hundredths of a percent
     documents   (root or -1, scroll offset left and top, range left and top)
-    elements    (left, top, width, height, edges, overflow, scroll, holder), or a text: why it has no box
-    children    numbers, of each element that has children
-    observed    what observes an element: tuples of `resize`, observer, line, box, whether told, width and height told last; or of
-                `intersect`, observer, line, whether it met the root last, index
+    elements    (left, top, width, height, edges, overflow, scroll, holder), or a text that says why it has no box
+    children    the numbers of the children of each element that has any
+    observed    what observes an element: tuples of `resize`, observer, line, box, whether it has been reported, last reported width and
+                height; or of `intersect`, observer, line, whether it intersected the root last, index
     left_out    how many elements are left out
-    has_holders whether a box is placed elsewhere than in its parent
+    has_holders whether the containing block of some box isn't its parent
     """
 
     def __init__(self, viewport, ratio):
@@ -78,8 +78,8 @@ def state(world, things, most=MOST_BOXES):
 
 
 def scrolled_state(world, things, before):
-    """The boxes of a world in which nothing but scroll positions changed since this state; None where all is to be looked at, as a
-    box that isn't placed in its parent moves against it."""
+    """The boxes of a world in which nothing but scroll positions changed since this state; None if all of them have to be computed,
+    because a box whose containing block isn't its parent moves relative to its parent."""
     if before.has_holders:
         return None
     layout, elements, documents = world.layout, list(things.elements), list(things.documents)
@@ -101,7 +101,7 @@ def _has_document(element):
 
 
 def _shown(world):
-    """The elements of Active documents, a frame's document in its frame."""
+    """The elements of Active documents in tree order, those of a frame's document after the frame."""
     found, waiting = [], [world.top.root] if world.top.root is not None else []
     while waiting:
         element = waiting.pop()
@@ -130,7 +130,8 @@ def _record(layout, things, element):
 
 
 def _holder(layout, things, element):
-    """0 where an element is placed in its parent, or as a root element on the page; else a number above what holds it, from 1."""
+    """0 if the containing block is the parent, or the page for a root element; otherwise one of the constants, or the number of the
+    containing block's element plus 1."""
     holder = layout.holder(element)
     if holder is element.parent or element.parent is None:
         return 0
@@ -138,7 +139,7 @@ def _holder(layout, things, element):
 
 
 def _corner(layout, element):
-    """Where a box is counted from."""
+    """The point that a box's position is relative to."""
     if element.parent is None:
         origin, offset = layout.origin(element.document), layout.document_offset(element.document)
     else:
@@ -185,7 +186,7 @@ PARTS = ('documents', 'elements', 'children', 'observed')
 
 
 def difference(before, after):
-    """What is another in the state after, by the parts of a state; of what is gone None. `before` may be None."""
+    """What differs in the state after, by the parts of a state, with None for what is gone. `before` may be None."""
     changed = {}
     if before is None or before.viewport != after.viewport:
         changed['viewport'] = after.viewport
@@ -210,7 +211,7 @@ def count(changed):
 # --- unpacking --------------------------------------------------------------------------------------------------------------
 
 class Box:
-    """A box in the coordinates of `top`: (left, top, right, bottom), its seen part or None, and its document's origin."""
+    """A box in the coordinates of `top`: (left, top, right, bottom), its visible part or None, and its document's origin."""
 
     def __init__(self, rectangle, seen, origin, level):
         self.rectangle, self.seen, self.origin, self.level = rectangle, seen, origin, level
@@ -227,11 +228,11 @@ def _common(one, other):
 
 
 class Unpacked:
-    """The boxes of a state in the coordinates of `top`, by documents in the order of an update."""
+    """The boxes of a state in the coordinates of `top`, by document, in the order in which these are updated."""
 
     def __init__(self, packed, frames):
-        self.packed, self.frames = packed, frames         # frames: an element's number -> its document's
-        self.boxes, self.parent, self.window = {}, {}, {}  # window: what is seen of all that an element holds
+        self.packed, self.frames = packed, frames         # frames: a frame element's number -> its document's
+        self.boxes, self.parent, self.window = {}, {}, {}  # window: where the boxes that an element contains are visible
         whole = (0, 0) + packed.viewport
         self._document(0, whole, whole)
 
@@ -252,7 +253,7 @@ class Unpacked:
             self._document(self.frames[element], content, _common(outer, content))
 
     def _outer_window(self, element, record, window):
-        """What may be seen of an element, where `window` is what is seen of its document."""
+        """Where an element's box is visible, `window` being where its document is."""
         holder = _rest(record)[3]
         if holder > 0:
             return self.window[holder - 1]

@@ -1,4 +1,4 @@
-"""Why a line of the trace came: which elements it is about, and which lines of the script brought it."""
+"""Why a line of the trace was written: which elements it is about, and which lines of the script caused it."""
 from collections import deque
 
 from reference.grammar import every_command
@@ -8,13 +8,13 @@ from reference.refusals import Limit, Throw
 from reference.resize_loop import LoopError, ResizeEntry
 from reference.world import Document, Element
 
-MOST_LOOKS = 150000               # at observed sizes
-MOST_CHANGES = 10                 # of one observation between two deliveries
+MOST_LOOKS = 150000               # checks of observed sizes
+MOST_CHANGES = 10                 # changes of one observation between two deliveries
 CHANGES_OF_SIZE = VERDICTS[1][1]
 
 
 class _Watched:
-    """An observation that was told a size: what it is now, and the lines of the commands that changed it since."""
+    """An observation that has reported a size: the size now, and the lines of the commands that changed it since."""
 
     def __init__(self, observer, observation):
         self.observer, self.observation = observer, observation
@@ -31,7 +31,7 @@ class _Watched:
 
 
 class _Viewport:
-    """The lines of the commands that changed a document's viewport since it was noted, or where none did, before that."""
+    """The lines of the commands that changed a document's viewport since its size was noted, or if none did, before that."""
 
     def __init__(self):
         self.noted, self.size, self.is_old, self.changed_by = None, None, True, []
@@ -50,12 +50,12 @@ class _Viewport:
 
 
 class Causes:
-    """Follows the commands of a page's run. `stirred` says that what observes an element may have changed."""
+    """Follows the commands of a page's run. `stirred` says that the observations of an element may have changed."""
 
     def __init__(self, page):
         self.page, self.things = page, page.things
         self.stirred = False
-        self.looks, self.unknown_from = 0, None            # the tick from which on nobody looks at sizes
+        self.looks, self.unknown_from = 0, None            # the tick from which sizes are no longer checked
         self.watched = {}                                  # an observation's number -> _Watched
         self.viewports = {}                                # a document -> _Viewport
         self.scrolled_by, self.keys, self.posted = {}, {}, deque()
@@ -73,7 +73,7 @@ class Causes:
         return [thing for document in self.page.world.documents for thing in document.pending_scrolls]
 
     def after(self, command):
-        """Notes what a command may bring; answers the observed sizes that it changed."""
+        """Notes what a command may cause later; returns the observed sizes that it changed."""
         name, world = command.name, self.page.world
         if name in CHANGES_OF_SIZE:
             self._note_viewports(command)
@@ -100,7 +100,7 @@ class Causes:
             self.viewports.setdefault(document, _Viewport()).look(document, self.page.world.layout.viewport(document), command.line)
 
     def _changed_sizes(self, command):
-        """Of the observations that were told a size: [observer, element, box, width, height, width, height], before and after."""
+        """For the observations that have reported a size: [observer, element, box, width, height, width, height], before and after."""
         if self.unknown_from is not None:
             return []
         self.looks += len(self.watched)
@@ -142,7 +142,7 @@ class Causes:
         line.elements.append(self.things.element(entry.target))
         observation = observer.observations.get(entry.target)
         if observation is None:
-            line.causes.append((observer.line, 'made the observer'))
+            line.causes.append((observer.line, 'created the observer'))
             return
         line.causes.append((observation.line, 'observes it'))
         line.more = ['told', observation.box]
@@ -156,7 +156,7 @@ class Causes:
         self.stirred = True
         line.elements.append(self.things.element(entry.target))
         registration = observer.registrations.get(entry.target)
-        line.causes.append((registration.line, 'observes it') if registration else (observer.line, 'made the observer'))
+        line.causes.append((registration.line, 'observes it') if registration else (observer.line, 'created the observer'))
 
     def _loop_error(self, line, error):
         line.more = ['left', error.depth_reached]
@@ -180,7 +180,7 @@ class Causes:
         return found
 
     def _shown_for(self, thing):
-        """The element for a thing: of a document its root element."""
+        """The element for a thing: for a document, its root element."""
         if isinstance(thing, Document):
             thing = thing.root
         return [self.things.element(thing)] if isinstance(thing, Element) else []
@@ -190,10 +190,10 @@ class Causes:
 
     def _keyed(self, line, words):
         by = self.keys.get(('raf' if words[0] == 'frame' else 'timer', words[1], words[2]))
-        line.causes += [(by, 'asked for it')] if by else []
+        line.causes += [(by, 'requested it')] if by else []
 
     def _task(self, line, words):
-        """The last of those that are taken off; the others were of documents that aren't Active."""
+        """The last of the posted tasks that have been taken; those before it were of documents that aren't Active."""
         while len(self.posted) > self.page.world.posted_held:
             line.causes = [(self.posted.popleft(), 'posted it')]
 
@@ -205,7 +205,7 @@ class Causes:
             line.elements += self._shown_for(thing)
         elif words[1] == 'change':
             queries = world.names[words[2]]
-            line.causes.append((queries.line, 'made the query list'))
+            line.causes.append((queries.line, 'created the query list'))
             line.causes += self._resized(queries.document)
         elif words[1] == 'resize':
             line.causes += self._resized(world.names[words[2][1:]])

@@ -1,17 +1,17 @@
 'use strict';
-// What is chosen, a tick, a box and a line of the trace, and how the page shows it.
+// The choice (a tick, a box and a line of the trace), and how the page shows it.
 
 const data = JSON.parse(document.getElementById('data').textContent);
 const at = id => document.getElementById(id);
 const fill = (id, content) => { at(id).innerHTML = shown(content); };
 const trace = new Trace(data), sentences = new Sentences(trace), story = new Story(trace, sentences);
 const states = new States(data), panels = new Panels(trace, sentences), drawing = new Drawing(data, at('stage'));
-// `boxes`, `before` and `changes` are those of the tick; `again` asks for all of it to be made anew.
+// `boxes`, `before` and `changes` are those of the tick; `again` asks for everything to be drawn again.
 const chosen = { place: 0, element: -1, line: -1, script: 0, boxes: null, before: null, changes: new Map(), again: false };
 const within = (place, length) => Math.max(0, Math.min(length - 1, place));
 let asked = 0, drawn = { place: -1 }, scriptOf = -1;
 
-const NO_BOX = html`<p class="after none">None. Click a box in the drawing, a name, or a line of the trace; <kbd>b</kbd> takes the next one.</p>`;
+const NO_BOX = html`<p class="after none">None. Click a box in the drawing, a name, or a line of the trace, or press <kbd>b</kbd>.</p>`;
 const PAGE_TITLES = { tick: 'The page as the tick ends', start: 'The page as the tick begins', end: 'The page as the script ends' };
 
 function choose(more) {
@@ -37,7 +37,7 @@ function show() {
   toAddress();
   document.documentElement.dataset.shown = `${place} ${element} ${line}`;
 }
-// Gives the focus back to what has it, where that is made anew.
+// Remembers what has the focus, and returns a function that restores it after that part has been drawn again.
 function focused() {
   const active = document.activeElement, part = active && active.closest('#story, #stage, #changes, #chosen, #tree');
   if (!part) return () => {};
@@ -80,19 +80,19 @@ function markTick(place) {
   strip.scrollTo({ left, behavior: Math.abs(drawn.place - place) === 1 ? 'auto' : 'instant' });
   if (cursor) cursor.setAttribute('x', place);
 }
-// Whether nothing ran, as the text is no script or is past a limit of texts.
+// Whether nothing ran because the text isn't a script or exceeds a limit on texts.
 const isRefused = () => data.lines.length === 1 && !data.steps.some(step => step.boxes) && /^(syntax|limit) /.test(trace.text(0));
 function showRefusal() {
   const words = trace.words(0);
-  at('tick-title').textContent = words[0] === 'syntax' ? 'This is no script' : 'This text meets a limit';
-  at('summary').textContent = 'Nothing ran.';
+  at('tick-title').textContent = words[0] === 'syntax' ? 'This isn\u2019t a script' : 'This text meets a limit';
+  at('summary').textContent = 'Nothing was run.';
   chosen.script = Number(words[words[0] === 'syntax' ? 1 : 2]);
   at('script-part').open = true;
 }
-// What is the same whatever is chosen in a tick.
+// The parts that depend only on the tick.
 function showStep(step, place) {
   const boxes = states.at(place), before = place > 0 ? states.at(place - 1) : null, changes = allChanges(before, boxes);
-  const since = place > 0 && data.steps[place - 1].kind === 'tick' ? 'Changed since the tick before' : 'Changed since the tick began';
+  const since = place > 0 && data.steps[place - 1].kind === 'tick' ? 'Changed since the previous tick' : 'Changed since the tick began';
   Object.assign(chosen, { boxes, before, changes });
   fill('story', story.told(step, chosen.line));
   fill('changes', panels.changes(boxes, before, changes));
@@ -115,7 +115,7 @@ function showScript() {
   scriptOf = chosen.place;
 }
 
-// ---- marks at what is chosen ----
+// ---- marking the choice ----
 
 function markLine(step, line) {
   for (const old of at('story').querySelectorAll('[aria-current]')) {
@@ -149,7 +149,7 @@ function markViews(element) {
 // ---- the page's address ----
 
 const address = () => new URLSearchParams(location.hash.slice(1));
-// Chooses what the address names, or this tick; answers whether there is one.
+// Chooses what the address names, or else this tick; returns whether there is such a tick.
 function fromAddress(wanted) {
   const words = address(), tick = Number(words.get('tick')) || wanted, last = data.steps.length - 1;
   const element = words.get('box') ? data.elements.findIndex(one => one[0] === words.get('box')) : -1;
@@ -162,5 +162,5 @@ function fromAddress(wanted) {
 function toAddress() {
   const step = data.steps[chosen.place], words = [step.kind === 'tick' ? `tick=${step.number}` : `at=${step.kind}`];
   if (chosen.element >= 0) words.push('box=' + trace.name(chosen.element));
-  try { history.replaceState(null, '', '#' + words.join('&')); } catch (e) { /* a page without an address of its own */ }
+  try { history.replaceState(null, '', '#' + words.join('&')); } catch (e) { /* the page has no address of its own */ }
 }

@@ -1,6 +1,6 @@
-"""What the page is given, as one object of JSON: the trace with its explanations (tools/explain/), and beside it the recording.
+"""The page's data as one JSON object: the trace with its explanations (tools/explain/), and the recording.
 
-The trace is the proved program's where that is built. Where the recording's is another, the trace stands alone, and a note says so.
+The trace is the proved program's if that is built. If the recording's trace differs from it, only the trace is shown, and a note says so.
 """
 import subprocess
 
@@ -15,19 +15,19 @@ MOST_SCRIPT_BYTES = 2000000
 
 
 def of(text, name, tick=None, say=lambda sentence: None):
-    """(object, status of the script) for a script's bytes; `tick` is the number of the tick at which the page opens, or None."""
+    """(object, exit status) for a script's bytes; `tick` is the number of the tick at which the page opens, or None."""
     try:
         recorded, failure = _recorded(text, tick, say), None
     except Exception as fault:
         recorded, failure = None, repr(fault)
     say('explaining the trace')
     trace = report.explained(text, recorded)
-    notes = [note for note in trace.notes if note != report.NOT_BUILT]        # the page says it by itself
+    notes = [note for note in trace.notes if note != report.NOT_BUILT]        # the page says so itself
     if failure:
-        notes.append('The boxes are not shown: the tool fails with %s, which is a fault of its own.' % failure)
+        notes.append("The boxes aren't shown: bin/view failed with %s, which is a bug in it." % failure)
     if recorded is not None and not _is_same(recorded, trace):
         recorded = None
-        notes.append('The boxes are not shown, since they would be those of another run.')
+        notes.append("The boxes aren't shown: they would be those of a different run.")
     page = {'name': name, 'status': trace.status, 'trace': 'proved' if runs.is_built() else 'reference', 'open': tick}
     page.update(_recording_parts(recorded, trace, notes) if recorded is not None else _plain_parts(trace))
     page['checked'] = None if recorded is None else _checked(recorded, text, notes)
@@ -50,13 +50,13 @@ def _recorded(text, tick, say):
 
 
 def _is_same(recorded, trace):
-    """Whether the recorded lines are those of the trace, as far as both go."""
+    """Whether the recorded lines and those of the trace agree, as far as both go."""
     start = recorded.told_before
     return all(line.text == told[0] for line, told in zip(recorded.lines, trace.lines[start:]))
 
 
 def _checked(recorded, text, notes):
-    """The number of the tick of which the proved program has the same boxes, where it is asked: the last one that is kept."""
+    """The number of the last tick kept, if the proved program can be asked for its boxes then and gives the same ones; otherwise None."""
     if '--inspect' not in available.WORDS or not runs.is_built() or recorded.last_tick is None or recorded.status != program.DONE:
         return None
     number, packed = recorded.last_tick
@@ -69,7 +69,7 @@ def _checked(recorded, text, notes):
         return None
     if done.stdout.decode('ascii', 'replace').splitlines() == list(boxes.inspected(packed, *recorded.things.listed())):
         return number
-    notes.append('The proved program has other boxes as tick %d ends, and one of both is wrong.' % number)
+    notes.append('The proved program gives other boxes at the end of tick %d, so one of the two is wrong.' % number)
     return None
 
 
@@ -87,7 +87,7 @@ def _recording_parts(recorded, trace, notes):
 
 
 def _line(line, explanation):
-    """[text, script's line, elements, causes, what more is known, explanation], without what is empty at its end."""
+    """[text, script's line, elements, causes, what more is known, explanation], without empty ones at its end."""
     row = [line.text, line.line, line.elements, line.causes, line.more, explanation]
     while not row[-1]:
         row.pop()
@@ -108,22 +108,22 @@ def _note_left_out(recorded, trace, notes):
     shown = len([step for step in recorded.steps if step.kind == recording.TICK])
     if not recorded.ended:
         is_in_tick = recorded.steps[-1:] and recorded.steps[-1].kind == recording.TICK and recorded.steps[-1].number > recorded.ticks
-        notes.append('The run was stopped %s tick %s; what comes later is left out.' % (
-            'in' if is_in_tick else 'behind', '{:,}'.format(recorded.ticks + bool(is_in_tick))))
+        notes.append('The run was stopped %s tick %s; everything later is left out.' % (
+            'in' if is_in_tick else 'after', '{:,}'.format(recorded.ticks + bool(is_in_tick))))
     if recorded.ticks > shown:
-        notes.append('Of %s ticks %s are shown, from the %s on; `bin/view --tick K` shows those around another one.' % (
-            '{:,}'.format(recorded.ticks), '{:,}'.format(shown), _ordinal(recorded.first)))
+        notes.append('%s of %s ticks are shown, from the %s on; `bin/view --tick K` shows those around tick K.' % (
+            '{:,}'.format(shown), '{:,}'.format(recorded.ticks), _ordinal(recorded.first)))
     if recorded.lines_left_out and recorded.ticks == shown:
-        notes.append('Of %s lines of the trace the last %s are left out.' % (
-            '{:,}'.format(len(recorded.told)), '{:,}'.format(recorded.lines_left_out)))
+        notes.append('The last %s of %s lines of the trace are left out.' % (
+            '{:,}'.format(recorded.lines_left_out), '{:,}'.format(len(recorded.told))))
     if recorded.boxes_left_out_from is not None:
-        notes.append('From tick %d on the boxes are left out: too many of them have changed until then.' % recorded.boxes_left_out_from)
+        notes.append('From tick %d on, the boxes are left out, because too many have changed by then.' % recorded.boxes_left_out_from)
     if recorded.causes.unknown_from is not None:
-        notes.append('From tick %d on it is not told which command changed an observed size: there are too many to look at.'
+        notes.append("From tick %d on, the page doesn't say which command changed an observed size: there are too many to check."
                      % recorded.causes.unknown_from)
     not_kept = sum([step.not_kept for step in recorded.steps])
     if not_kept:
-        notes.append('Of the commands of handlers %s are left out.' % '{:,}'.format(not_kept))
+        notes.append('%s of the commands of handlers are left out.' % '{:,}'.format(not_kept))
 
 
 def _ordinal(number):
@@ -134,7 +134,7 @@ def _ordinal(number):
 # --- a trace alone ------------------------------------------------------------------------------------------------------------
 
 def _plain_parts(trace):
-    """Of a script that is refused, or whose trace isn't the reference's: the lines by ticks, without boxes."""
+    """For a script that is refused, or whose trace isn't the reference's: the lines by tick, without boxes."""
     kept = trace.lines[:recording.MOST_LINES]
     lines = [[text, line or 0, [], [], None, explanation] for text, line, explanation in kept]
     steps, ticks = [_plain_step(recording.START, 0)], 0
@@ -157,14 +157,14 @@ def _plain_step(kind, number):
 # --- the script -----------------------------------------------------------------------------------------------------------------
 
 def _script_parts(script, page, notes):
-    """The script's lines; of a long one those alone to which something points."""
+    """The script's lines; of a long script, only those that something points to."""
     texts = script.text.split(b'\n')
     if texts and not texts[-1]:
         texts.pop()
     if len(texts) <= MOST_SCRIPT_LINES and len(script.text) <= MOST_SCRIPT_BYTES:
         return {'script': [shown(text) for text in texts], 'scriptLines': len(texts)}
     wanted = sorted({number for number in _pointed_at(page) if 0 < number <= len(texts)})
-    notes.append('Of %s lines of the script those are shown to which something points.' % '{:,}'.format(len(texts)))
+    notes.append('Of the %s lines of the script, only those that something points to are shown.' % '{:,}'.format(len(texts)))
     return {'script': {number: shown(texts[number - 1][:400]) for number in wanted}, 'scriptLines': len(texts)}
 
 
@@ -187,6 +187,6 @@ def _pointed_at(page):
 
 
 def shown(text):
-    """The bytes of a line as text: UTF-8 where it is that, and a mark for what isn't seen."""
+    """The bytes of a line as text, decoded as UTF-8, with a mark for what is invalid or not printable."""
     decoded = text.rstrip(b'\r').decode('utf-8', 'replace')
     return ''.join([letter if letter == '\t' or letter.isprintable() else '\ufffd' for letter in decoded])

@@ -1,12 +1,12 @@
 'use strict';
-// The boxes of a tick in SVG, to scale. Numbers in the drawing are CSS pixels of the page; text and marks are sized by the scale at
-// which it is shown.
+// The boxes of a tick in SVG, to scale. Numbers in the drawing are CSS pixels of the page; the size of text and marks follows the scale
+// at which it is shown.
 
-const THIN = 0.01;               // of what has no width or height, which SVG wouldn't draw
-const AROUND = 17;               // pixels of the screen around what is drawn
-const LABELS = 250;              // names that are written at most
-const LETTER = 6.1, LINE = 13;   // of a name, in pixels of the screen
-const SPOTS = 40, LINES = 6;     // that are tried for a name
+const THIN = 0.01;               // stands for a width or height of 0, which SVG wouldn't draw
+const AROUND = 17;               // pixels of the screen around the drawing
+const LABELS = 250;              // at most this many names
+const LETTER = 6.1, LINE = 13;   // width of a letter and height of a line in a name, in pixels of the screen
+const SPOTS = 40, LINES = 6;     // tried for a name
 const GHOSTS = 200;
 const VIEWS = ['viewport', 'page', 'box'];
 const TOLD_CHANGES = ['new', 'resized', 'scrolled', 'moved', 'edges', 'overflow', 'comes into view', 'leaves the view'];
@@ -23,14 +23,14 @@ function around(r) {
   return [r[0] - by, r[1] - by, r[2] + by, r[3] + by];
 }
 function seenSaid(box) {
-  if (!box.seen) return 'not seen';
-  return isSame(box.seen, box.rectangle) ? 'all of it is seen' : `seen ${rectangleText(box.seen, box.origin)}`;
+  if (!box.seen) return 'not visible';
+  return isSame(box.seen, box.rectangle) ? 'all of it visible' : `visible ${rectangleText(box.seen, box.origin)}`;
 }
 
 class Drawing {
   constructor(data, place) { Object.assign(this, { data, place, view: 'viewport', zoom: 1, boxes: null, labels: [], lastPoint: null }); }
 
-  // ---- all of it ----
+  // ---- the whole drawing ----
 
   draw(boxes, before, changes, chosen) {
     this.boxes = boxes;
@@ -45,7 +45,7 @@ class Drawing {
     this.place.innerHTML = shown(this.svg());
     this.choose(chosen);
   }
-  // What of the page is drawn: [left, top, width, height] in its pixels.
+  // The part of the page that is drawn: [left, top, width, height] in its pixels.
   frame(chosen, room, most) {
     const all = [...this.boxes.boxes.values()].map(box => box.rectangle), box = this.boxes.boxes.get(chosen);
     let r = this.boxes.viewports[0].rectangle;
@@ -65,7 +65,7 @@ class Drawing {
   viewport({ rectangle, scroll }) {
     return html`<g class="viewport"><rect ${svgRectangle(rectangle)}/>${this.thumbs(rectangle, scroll)}</g>`;
   }
-  // Bars at the edges: where the part that is shown lies in the whole.
+  // Bars at the edges, which show the scroll position.
   thumbs(r, [left, top, mostLeft, mostTop]) {
     const one = UNITS / this.scale, parts = [];
     const bar = (length, offset, most) => { const size = Math.max(8 * one, length * length / (length + most)); return [(length - size) * offset / most, size]; };
@@ -91,7 +91,7 @@ class Drawing {
     return html`<path class="cross" d="M${left} ${top}L${right} ${bottom}M${right} ${top}L${left} ${bottom}"/>`;
   }
   changeWords(element) { return (this.changes.get(element) || []).filter(one => TOLD_CHANGES.includes(one)); }
-  // A box for those who don't see it.
+  // A box in words, for screen readers.
   said(element, box) {
     const [name, kind] = this.data.elements[element], [left, top, width, height] = rectangleText(box.rectangle, box.origin).split(' ');
     return [
@@ -130,7 +130,7 @@ class Drawing {
     const box = this.boxes.boxes.get(this.chosen), clips = box ? this.boxes.clips(this.chosen).map(clip => clip.rectangle) : [];
     return box && html`${clips.filter(r => !isCrossed(r)).map(r => rect('clip', r))}${rect('picked', box.rectangle)}`;
   }
-  // Each where it covers no other: viewports first, then the chosen box, those that changed, and the others.
+  // Names, placed so that none covers another: viewports first, then the chosen box, those that changed, and the others.
   names() {
     const isChanged = element => this.changeWords(element).length > 0, all = this.boxes.order.map(row => row.element);
     const boxes = [this.chosen, ...[...this.changes.keys()].filter(isChanged), ...all.filter(element => this.boxes.boxes.has(element) && !isChanged(element))];
@@ -139,12 +139,12 @@ class Drawing {
   viewportName({ number: at, rectangle }) {
     const text = `viewport of ${this.data.documents[at][0]}, ${sizeText(widthOf(rectangle), heightOf(rectangle))}`;
     const name = this.label(rectangle, text, 'of-viewport', true);
-    return at || this.boxes.boxes.size ? name : html`${name}${this.label(rectangle, 'no box stands in the page', 'of-viewport', false)}`;
+    return at || this.boxes.boxes.size ? name : html`${name}${this.label(rectangle, 'the page has no box', 'of-viewport', false)}`;
   }
   nameOf(element, isChanged) {
     const box = this.boxes.boxes.get(element), kind = element === this.chosen ? 'of-chosen' : isChanged ? 'of-changed' : '';
     if (!box || !box.seen && !kind) return '';
-    const text = [this.data.elements[element][0], ...this.changeWords(element).slice(0, 1)].join(' \u00b7 ') + (box.seen ? '' : ', not seen');
+    const text = [this.data.elements[element][0], ...this.changeWords(element).slice(0, 1)].join(' \u00b7 ') + (box.seen ? '' : ', not visible');
     return this.label(box.seen || box.rectangle, text, kind, false) || this.label(box.rectangle, text, kind, false);
   }
   label(rectangle, text, kind, isOutside) {
@@ -159,7 +159,7 @@ class Drawing {
     const x = round(this.frameNow[0] + (spot[0] + 3) * one), y = round(this.frameNow[1] + (spot[1] + 10) * one);
     return html`<text class="${kind}" x="${x}" y="${y}" font-size="${round(11 * one)}">${text}</text>`;
   }
-  // Along the top edge, past what stands there, then line by line below; of a flat box behind its edges.
+  // Along the top edge, past what is there, then line by line below; for a flat box, outside its edges.
   spots(left, top, right, bottom, wide) {
     if (right - left < wide) return [];
     if (bottom - top < LINE) return [[left, bottom + 1], [left, top - LINE - 1]];
@@ -177,12 +177,12 @@ class Drawing {
 
   // ---- pointing ----
 
-  // The point of the page, in units, below a place on the screen.
+  // The point of the page, in units, at a place on the screen.
   pointAt(event) {
     const matrix = document.getElementById('drawing').getScreenCTM().inverse(), point = new DOMPoint(event.clientX, event.clientY).matrixTransform(matrix);
     return [Math.floor(point.x * UNITS), Math.floor(point.y * UNITS)];
   }
-  // The box at a point, or -1; where the same point is pointed at again, the one below.
+  // The box at a point, or -1; if the same point is clicked again, the one below.
   picked([x, y], before) {
     const near = 3 * UNITS / this.scale, isAgain = this.lastPoint && Math.hypot(x - this.lastPoint[0], y - this.lastPoint[1]) < near;
     const seen = this.boxes.hits(x, y), found = seen.length ? seen : this.boxes.around(x, y);

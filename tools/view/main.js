@@ -1,5 +1,5 @@
 'use strict';
-// What stands in the page from the first, and what clicks and keys do.
+// What the page shows at first, and what clicks and keys do.
 
 const AFTER_SHOWN = act => requestAnimationFrame(() => requestAnimationFrame(act));
 
@@ -19,15 +19,15 @@ function begin() {
   if (!fromAddress(data.open)) choose({ place: first() });
 }
 function source() {
-  const unbuilt = html`the reference program\u2019s, as the proved one isn\u2019t built (<code>bin/build</code> builds it).`;
+  const unbuilt = html`the reference program\u2019s, because the proved one isn\u2019t built (<code>bin/build</code> builds it).`;
   return html`Trace: ${data.trace === 'proved' ? 'the proved program\u2019s.' : unbuilt} ${
-    data.steps.some(step => step.boxes) && 'Boxes and causes: the reference\u2019s.'}${
-    data.checked !== null && ` The boxes of tick ${data.checked} are the proved program\u2019s too.`}`;
+    data.steps.some(step => step.boxes) && 'Boxes and causes: the reference program\u2019s.'}${
+    data.checked !== null && ` The proved program gives the same boxes at the end of tick ${data.checked}.`}`;
 }
 function totals() {
   const sum = key => data.steps.reduce((all, step) => all + trace.counts(step)[key], 0), isCut = data.lineCount > data.lines.length;
-  const parts = [counted(data.ticks, 'tick'), counted(data.lineCount, 'line') + ' of trace'];
-  for (const [key, one, kind] of [['errors', 'loop error', 'bad'], ['throws', 'exception', 'odd'], ['limits', 'limit', 'bad'], ['faults', 'fault', 'bad']]) {
+  const parts = [counted(data.ticks, 'tick'), counted(data.lineCount, 'line') + ' of the trace'];
+  for (const [key, one, kind] of [['errors', 'loop error', 'bad'], ['throws', 'exception', 'odd'], ['limits', 'limit', 'bad'], ['faults', 'syntax error', 'bad']]) {
     if (sum(key)) parts.push(html`<b class="${kind}">${counted(sum(key), one)}${isCut && ' or more'}</b>`);
   }
   return parts.map((part, place) => html`${place > 0 && ' \u00b7 '}${part}`);
@@ -36,10 +36,10 @@ function notes() {
   const wanted = Number(address().get('tick')) || data.open || 0, found = data.notes.slice();
   const left = Math.max(0, ...data.steps.map(step => step.boxes && step.boxes.leftOut || 0));
   if (wanted > data.ticks) found.unshift(`The script has ${counted(data.ticks, 'tick')}; there is no tick ${wanted}.`);
-  if (left) found.push(`Of a tick up to ${counted(left, 'element')} ${left === 1 ? 'is' : 'are'} left out, of the drawing and the lists.`);
+  if (left) found.push(`Up to ${counted(left, 'element')} of a tick ${left === 1 ? 'is' : 'are'} left out of the drawing and the lists.`);
   return found.length ? html`<ul>${found.map(one => html`<li>${quoted(one)}</li>`)}</ul>` : '';
 }
-// The place of the first tick with a loop error, a limit or a fault, else of the first one in which something is told.
+// The place of the first tick with a loop error, a limit or a syntax error; otherwise of the first one in which something is reported.
 function first() {
   const bad = data.steps.findIndex(step => { const { errors, limits, faults } = trace.counts(step); return errors + limits + faults > 0; });
   const told = data.steps.findIndex(step => step.kind === 'tick' && trace.linesOf(step).length > 1);
@@ -60,8 +60,8 @@ function toTrouble(by) {
 function toTick(text) {
   const place = data.steps.findIndex(one => one.kind === 'tick' && one.number === Number(text)), ticks = data.steps.filter(one => one.kind === 'tick');
   if (place >= 0) toPlace(place);
-  else if (!ticks.length) say('There is no tick.');
-  else say(`There is no tick ${text} here: the page has those from ${number(ticks[0].number)} to ${number(ticks[ticks.length - 1].number)}.`);
+  else if (!ticks.length) say('There are no ticks.');
+  else say(`There is no tick ${text} here; the page has ticks ${number(ticks[0].number)} to ${number(ticks[ticks.length - 1].number)}.`);
 }
 function toLine(line) {
   const elements = trace.elements(line);
@@ -71,7 +71,7 @@ function toLine(line) {
     if (row) row.scrollIntoView({ block: 'nearest' });
   });
 }
-// The next of a list, or its first or last where none of it is chosen.
+// The next of a list, or its first or last if none of it is chosen.
 function nextOf(list, now, by) {
   const here = list.indexOf(now);
   return here < 0 ? list[by > 0 ? 0 : list.length - 1] : list[within(here + by, list.length)];
@@ -84,7 +84,7 @@ function stepBox(by, part) {
   const all = chosen.boxes ? chosen.boxes.order.map(row => row.element).filter(element => element !== undefined) : [];
   if (all.length) toBox(nextOf(all, chosen.element, by), part);
 }
-// `part` is the id of the part of the page in which the box gets the focus, if in one.
+// `part` is the id of the part of the page in which the box gets the focus, if any.
 function toBox(element, part) {
   choose({ element, line: -1 });
   if (part) {
@@ -174,7 +174,7 @@ addEventListener('hashchange', () => fromAddress(null));
 addEventListener('resize', () => choose({}));
 addEventListener('beforeprint', () => { story.all = chosen.again = true; show(); });
 
-// What lies below the pointer: the rule of `--hit`.
+// What is under the pointer, by the rule of `--hit`.
 let pointed = null, asking = 0;
 at('stage').addEventListener('pointermove', event => {
   pointed = event;
@@ -196,7 +196,7 @@ const KEYS = {
   t: () => at('number').select(), f: toFind, s: () => toScript(scriptLine()), '?': () => at('help').showModal(),
   Escape: () => choose({ element: -1, line: -1 }),
 };
-// Keys that mean something else in the drawing and in the tree; answers whether this was one.
+// Keys that mean something else in the drawing and in the tree; returns whether this was one.
 function inPart(event) {
   const active = document.activeElement, part = ['stage', 'tree'].find(id => at(id).contains(active)), by = { ArrowDown: 1, ArrowUp: -1 }[event.key];
   if (part && by) stepBox(by, part);

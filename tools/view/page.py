@@ -1,4 +1,4 @@
-"""The page: one file of HTML with its style, its program and its data, which asks nothing of any network."""
+"""The page: one file of HTML with its style, its program and its data. It makes no network requests."""
 import html
 import json
 import os
@@ -13,7 +13,7 @@ def _part(name):
 
 
 def in_json(value):
-    """JSON that may stand in a script element."""
+    """JSON that is safe inside a script element."""
     return json.dumps(value, separators=(',', ':')).replace('<', '\\u003c')
 
 
@@ -22,5 +22,5 @@ def written(data):
     frame = _part('page.html')
     parts = {'NAME': html.escape(data['name']).encode('ascii', 'xmlcharrefreplace').decode(), 'STYLE': _part('page.css'),
              'PROGRAM': '\n'.join([_part(name) for name in PROGRAM]), 'DATA': in_json(data)}
-    pieces = frame.split('@@')                 # a name stands between two of these marks
+    pieces = frame.split('@@')                 # a name is between two of these marks
     return ''.join([parts[piece] if place % 2 else piece for place, piece in enumerate(pieces)])

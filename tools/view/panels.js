@@ -1,11 +1,11 @@
 'use strict';
-// What stands around the drawing: the ticks, what changed, the chosen box, all boxes and the script.
+// The panels around the drawing: the ticks, what changed, the chosen box, all boxes and the script.
 
-const ROWS = 60;                 // of a list, before a button shows the others
+const ROWS = 60;                 // rows of a list before a button for the others
 const TREE_ROWS = 400;
-const MANY = 24;                 // ticks, from which on an overview stands above them
+const MANY = 24;                 // more ticks than this get an overview
 const HISTORY = 40;
-const DEEPEST = 12;              // levels that are set in
+const DEEPEST = 12;              // levels of indentation
 const SIZE_WORDS = ['resized', 'edges', 'overflow'];
 const OWN_WORDS = ['new', 'gone', 'resized', 'edges', 'overflow', 'scrolled', 'moved'];
 
@@ -20,7 +20,7 @@ class Panels {
     Object.assign(this, { trace, sentences, data: trace.data, whole: new Set() });
     this.index();
   }
-  // The lines of the trace by elements, and the step in which each stands.
+  // The lines of the trace by element, and the step of each line.
   index() {
     this.byElement = new Map();
     this.placeOf = new Map();
@@ -33,7 +33,7 @@ class Panels {
     }));
   }
   documentName(number) { return this.data.documents[number][0]; }
-  // The first items of a list; a button shows the others.
+  // The first items of a list, and a button for the others.
   some(key, items, row, most = ROWS, wrap = button => html`<tr class="others"><td colspan="5">${button}</td></tr>`) {
     const shownItems = this.whole.has(key) ? items : items.slice(0, most), others = items.length - shownItems.length;
     const button = html`<button type="button" data-more="${key}">Show ${number(others)} more</button>`;
@@ -61,7 +61,7 @@ class Panels {
         number(step.time)} ms</span>`}
       <span class="badges">${badges.slice(0, 2).map(([kind, one]) => html`<span class="badge ${kind}">${one}</span> `)}</span></button></li>`;
   }
-  // A bar for each tick, as high as it has lines in the trace, with a mark above where something went wrong.
+  // A bar for each tick, its height by the number of its lines in the trace, with a mark above it if something went wrong.
   overview() {
     const steps = this.data.steps, lines = steps.map(step => this.trace.linesOf(step).length), most = Math.log1p(Math.max(1, ...lines));
     const bar = place => `M${place} 40h.85v${-round(2 + 28 * Math.log1p(lines[place]) / most)}h-.85z`;
@@ -76,7 +76,7 @@ class Panels {
   // ---- what changed ----
 
   changes(boxes, before, changes) {
-    if (!boxes || !before) return html`<p class="after">${boxes ? 'Nothing stands before this.' : 'The boxes are left out here.'}</p>`;
+    if (!boxes || !before) return html`<p class="after">${boxes ? 'There is nothing earlier to compare with.' : 'The boxes are left out here.'}</p>`;
     const own = [], view = [], along = [];
     for (const [element, words] of changes) {
       const kind = words.some(one => OWN_WORDS.includes(one)) ? own : words.some(one => one.endsWith('view')) ? view : along;
@@ -86,23 +86,23 @@ class Panels {
     own.sort((a, b) => rank(a) - rank(b));
     if (!documents.length && !changes.size) return html`<p class="after">No box changed.</p>`;
     return html`${documents}${own.length > 0 && this.changeTable('own', own, boxes, before)}${
-      view.length > 0 && html`<h4>Came into view or left it, as something else moved</h4>${this.changeTable('view', view, boxes, before)}`}${
+      view.length > 0 && html`<h4>Came into view or left it because something else moved</h4>${this.changeTable('view', view, boxes, before)}`}${
       along.length > 0 && this.alongSaid(along)}`;
   }
   alongSaid(along) {
-    const what = along.length === 1 ? '1 more box moved along with what it stands' : `${number(along.length)} more boxes moved along with what they stand`;
-    return html`<p class="after">${what} in or behind: ${along.slice(0, 6).map(([element], at) => html`${at > 0 && ', '}${
+    const what = along.length === 1 ? '1 more box moved along with what it is' : `${number(along.length)} more boxes moved along with what they are`;
+    return html`<p class="after">${what} in or after: ${along.slice(0, 6).map(([element], at) => html`${at > 0 && ', '}${
       this.sentences.thing(element)}`)}${along.length > 6 && ' \u2026'}</p>`;
   }
   documentChanges(boxes, before) {
     const found = [], ratios = [before.ratio, boxes.ratio].map(percent);
-    if (ratios[0] !== ratios[1]) found.push(html`<p class="after">The ratio of device pixels is changed: ${ratios[0]} \u2192 ${sized(ratios[1])}</p>`);
+    if (ratios[0] !== ratios[1]) found.push(html`<p class="after">The device pixel ratio changed: ${ratios[0]} \u2192 ${sized(ratios[1])}</p>`);
     for (const now of boxes.viewports) {
       const old = before.viewports.find(one => one.number === now.number), name = bold(this.documentName(now.number));
       if (!old) continue;
       const sizes = [sizeOf(old.rectangle), sizeOf(now.rectangle)], scrolls = [scrollText(old.scroll), scrollText(now.scroll)];
-      if (sizes[0] !== sizes[1]) found.push(html`<p class="after">The viewport of ${name} is resized: ${sizes[0]} \u2192 ${sized(sizes[1])}</p>`);
-      if (scrolls[0] !== scrolls[1]) found.push(html`<p class="after">The document ${name} is scrolled: ${scrolls[0]} \u2192 ${sized(scrolls[1])}</p>`);
+      if (sizes[0] !== sizes[1]) found.push(html`<p class="after">The viewport of ${name} was resized: ${sizes[0]} \u2192 ${sized(sizes[1])}</p>`);
+      if (scrolls[0] !== scrolls[1]) found.push(html`<p class="after">The document ${name} was scrolled: ${scrolls[0]} \u2192 ${sized(scrolls[1])}</p>`);
     }
     return found;
   }
@@ -111,15 +111,15 @@ class Panels {
     return html`<table class="changes">${heads(['Box', 'Change', 'Before', 'Now'])}<tbody>${this.some('changes-' + key, rows, row)}</tbody></table>`;
   }
   changeRow(element, words, old, now, boxes) {
-    const reason = boxes.reasons.get(element), gone = word(reason ? quoted(reason) : 'taken out of the tree');
+    const reason = boxes.reasons.get(element), gone = word(reason ? quoted(reason) : 'removed from the tree');
     return html`<tr><th scope="row">${this.sentences.thing(element)}</th><td>${words.filter(one => one !== 'along').join(', ')}</td><td>${
       old ? this.changed(old, words, now) : word('no box')}</td><td>${now ? this.changed(now, words, old) : gone}</td></tr>`;
   }
-  // What of a box is another than in its other state.
+  // The properties of a box that differ from those in its other state.
   changed(box, words, other) {
     const parts = [];
     if (!other || words.some(one => SIZE_WORDS.includes(one))) parts.push(sizeOf(box.rectangle));
-    if (words.includes('scrolled')) parts.push(box.scroll ? 'scrolled to ' + scrollText(box.scroll) : 'scrolls no more');
+    if (words.includes('scrolled')) parts.push(box.scroll ? 'scrolled to ' + scrollText(box.scroll) : 'not a scroll container');
     if (!other || words.includes('moved')) parts.push('at ' + cornerText(box.rectangle, box.origin));
     if (words.some(one => one.endsWith('view'))) parts.push(seenSaid(box));
     return parts.join(', ');
@@ -129,13 +129,13 @@ class Panels {
 
   chosen(element, place, boxes) {
     const [, kind, line] = this.data.elements[element], box = boxes && boxes.boxes.get(element), observed = boxes && boxes.packed.observed.get(element);
-    const facts = [fact('made', html`${kind}, ${this.sentences.ref(line)} ${this.sentences.code(line)}`)];
+    const facts = [fact('created', html`${kind}, ${this.sentences.ref(line)} ${this.sentences.code(line)}`)];
     if (box) facts.push(...this.geometry(element, box, boxes));
-    else if (boxes) facts.push(fact('box', html`none: ${quoted(boxes.reasons.get(element) || 'it stands in no document that is shown')}`));
+    else if (boxes) facts.push(fact('box', html`none: ${quoted(boxes.reasons.get(element) || 'it isn\u2019t in a document that is shown')}`));
     return html`<dl class="facts">${facts}</dl>${observed && this.observers(observed, box, boxes)}${box && this.clips(element, box, boxes)}${
       this.history(element)}${this.linesAbout(element, place)}`;
   }
-  // Of a box that its parent doesn't hold.
+  // The containing block of a box, if that isn't its parent.
   holder(box) {
     if (box.holder === ON_PAGE) return html`the page of ${bold(this.documentName(box.document))}`;
     return box.holder === ON_SCREEN ? html`the screen of ${bold(this.documentName(box.document))}` : this.sentences.thing(box.holder - 1);
@@ -145,27 +145,28 @@ class Panels {
     const most = box.scroll && box.scroll.slice(2).map(px).join(' ');
     return [
       fact('border box', html`${sized(sizeOf(r))} at ${cornerText(r, box.origin)}`),
-      box.holder && fact('held by', this.holder(box)),
+      box.holder !== 0 && fact('containing block', this.holder(box)),
       !isSame(box.content, r) && fact('content box', sizeOf(box.content)),
-      sides(0).some(Boolean) && fact('borders', sides(0).map(px).join(' ')),
-      sides(4).some(Boolean) && fact('paddings', sides(4).map(px).join(' ')),
-      box.overflow && fact('overflow', `${box.overflow}: it clips what is in it`),
+      sides(0).some(Boolean) && fact('border width', sides(0).map(px).join(' ')),
+      sides(4).some(Boolean) && fact('padding', sides(4).map(px).join(' ')),
+      box.overflow && fact('overflow', `${box.overflow}, clips its content`),
       box.scroll && fact('scrolled to', `${scrollText(box.scroll)} of ${most}`),
-      fact('seen', isSame(box.seen, r) ? 'all of it' : box.seen ? rectangleText(box.seen, box.origin) : 'nothing'),
+      fact('visible', isSame(box.seen, r) ? 'all of it' : box.seen ? rectangleText(box.seen, box.origin) : 'nothing'),
       fact('depth', html`${box.depth} in ${bold(this.documentName(box.document))}${parent !== undefined && html`, in ${this.sentences.thing(parent)}`}`),
     ];
   }
   observers(observed, box, boxes) {
-    return html`<h4>Observed</h4><ul class="observers">${observed.slice(0, 30).map(one => html`<li>${
+    return html`<h4>Observed by</h4><ul class="observers">${observed.slice(0, 30).map(one => html`<li>${
       one[0] === 'resize' ? this.observation(one, box, boxes) : this.registration(one)}</li>`)}</ul>`;
   }
   registration([, observer, line, meets, index]) {
-    return html`${bold(observer)}, ${this.sentences.ref(line)}: ${index < 0 ? 'not computed yet' : meets ? 'meets its root' : 'doesn\u2019t meet its root'}`;
+    return html`${bold(observer)}, ${this.sentences.ref(line)}: ${index < 0 ? 'not computed yet' : meets ? 'intersects its root' : 'doesn\u2019t intersect its root'}`;
   }
   observation([, observer, line, kind, told, width, height], box, boxes) {
-    const now = this.sizeNow(kind, box, boxes), isTold = now[0] === width && now[1] === height;
-    const state = isTold ? ', as it is' : html`; <b class="bad">it is ${toldSize(kind, ...now)}</b>, to be told`;
-    return html`${bold(observer)}, ${OBSERVED[kind]}, ${this.sentences.ref(line)}: ${told ? `told ${toldSize(kind, width, height)}` : 'told nothing yet'}${state}`;
+    const now = this.sizeNow(kind, box, boxes), isReported = now[0] === width && now[1] === height, size = toldSize(kind, ...now);
+    const state = !isReported ? html`; <b class="bad">it is ${size} now</b>, to be reported` : told ? ', as it is now' : `; it is ${size} now`;
+    return html`${bold(observer)}, ${OBSERVED[kind]}, ${this.sentences.ref(line)}: ${
+      told ? `last reported ${toldSize(kind, width, height)}` : 'nothing reported yet'}${state}`;
   }
   sizeNow(kind, box, boxes) {
     if (!box) return [0, 0];
@@ -176,10 +177,10 @@ class Panels {
     const row = clip => html`<tr><th scope="row">${clip.said} ${
       clip.element === undefined ? bold(this.documentName(clip.document)) : this.sentences.thing(clip.element)}</th><td>${
       rectangleText(clip.rectangle, [0, 0])}</td><td>${isCrossed(clip.left) ? word('nothing') : rectangleText(clip.left, [0, 0])}</td></tr>`;
-    return html`<h4>What is seen of it</h4><table class="clips">${heads(['Clipped by', html`in ${bold('top')}`, 'left is'])}<tbody>
+    return html`<h4>What is visible of it</h4><table class="clips">${heads(['Clipped by', html`in ${bold('top')}`, 'leaves'])}<tbody>
       <tr><th scope="row">the box itself</th><td>${rectangleText(box.rectangle, [0, 0])}</td><td></td></tr>${boxes.clips(element).map(row)}</tbody></table>`;
   }
-  // The steps in which a box is another one than before, by its own record.
+  // The steps in which the record of the box itself changes.
   placesOf(element) {
     const places = this.data.steps.map((step, place) => place);
     return places.filter(place => { const { boxes } = this.data.steps[place]; return boxes && boxes.elements && element in boxes.elements; });
@@ -187,7 +188,7 @@ class Panels {
   history(element) {
     const places = this.placesOf(element), others = places.length - HISTORY;
     const button = place => html`<button type="button" class="to-step" data-step="${place}">${this.stepName(this.data.steps[place])}</button> `;
-    return places.length > 0 && html`<h4>Its box itself changes in</h4><p class="history">${places.slice(0, HISTORY).map(button)}${
+    return places.length > 0 && html`<h4>Its box changes in</h4><p class="history">${places.slice(0, HISTORY).map(button)}${
       others > 0 && `and ${number(others)} more`}</p>`;
   }
   linesAbout(element, place) {
@@ -210,7 +211,7 @@ class Panels {
     const rows = boxes.order.filter(row => this.rowName(row).toLowerCase().includes(wanted.toLowerCase()));
     const list = this.some('tree', rows, row => row.element === undefined ? this.documentRow(row, boxes) : this.boxRow(row, boxes, chosen, changes),
       TREE_ROWS, button => html`<li class="others">${button}</li>`);
-    return html`<ul class="tree" aria-label="Boxes">${list}</ul>${!rows.length && html`<p class="after">No box is called so.</p>`}`;
+    return html`<ul class="tree" aria-label="Boxes">${list}</ul>${!rows.length && html`<p class="after">No box has such a name.</p>`}`;
   }
   rowName(row) { return row.element === undefined ? this.documentName(row.document) : this.trace.name(row.element); }
   documentRow(row, boxes) {
@@ -221,7 +222,7 @@ class Panels {
   }
   boxRow(row, boxes, chosen, changes) {
     const box = boxes.boxes.get(row.element), changed = (changes.get(row.element) || []).filter(one => one !== 'along');
-    const seen = box && !isSame(box.seen, box.rectangle) && word(box.seen ? 'seen in part' : 'not seen');
+    const seen = box && !isSame(box.seen, box.rectangle) && word(box.seen ? 'partly visible' : 'not visible');
     return html`<li style="--level:${Math.min(row.level, DEEPEST)}"><button type="button" class="row" data-element="${row.element}"${
       row.element === chosen && html` aria-current="true"`}>${bold(this.rowName(row))} <span>${box ? sizeOf(box.rectangle) : word('no box')} ${seen} ${
       changed.length > 0 && html`<span class="change">${changed[0]}</span>`}</span></button></li>`;

@@ -1,16 +1,16 @@
-"""A run of the reference that notes, tick by tick, what is told, which commands and callbacks run, and where the boxes are as the
-tick ends.
+"""A run of the reference that records, tick by tick, the lines of the trace, which commands and callbacks run, and where the boxes are
+at the end of the tick.
 
 A log is a list of items:
-    ['line', N]                           the line N of those kept, from 0 on
-    ['handler', NAME, LINE]               a handler is called; what follows runs in it, up to
+    ['line', N]                           the line N of those kept, from 0
+    ['handler', NAME, LINE]               a handler is called; the items up to the matching 'end' run in it
     ['end']
     ['entry', ELEMENT]                    the block of an `each` begins for this target
     ['command', LINE, LEVEL, TARGET, HOW, SIZES]
-        a command began, LEVEL blocks deep in its handler; TARGET is the element that `$target` names in it, or -1; HOW is what a
-        condition gave, or how many entries an `each` goes over, else -1; SIZES are the observed sizes that it changed:
-        [observer, element, box, width, height, width, height], before and after. Of commands outside handlers there are those alone
-        that changed such a size.
+        a command began, LEVEL blocks deep in its handler; TARGET is the element that `$target` names in it, or -1; HOW is the result
+        of a condition, or the number of entries that an `each` iterates over, otherwise -1; SIZES are the observed sizes that it
+        changed: [observer, element, box, width, height, width, height], before and after. Commands outside handlers are only in the
+        log if they changed such a size.
 """
 import time
 from collections import Counter
@@ -25,19 +25,19 @@ from reference.world import World
 from . import boxes
 from .causes import Causes
 
-MOST_TICKS = 2000                 # that are kept
+MOST_TICKS = 2000
 MOST_LINES = 20000                # of the trace
-MOST_COMMANDS_OF_A_TICK = 400     # in handlers, these counted too
+MOST_COMMANDS_OF_A_TICK = 400     # in handlers, and calls of handlers
 MOST_COMMANDS = 40000
 MOST_DIFFERENCES = 400000         # values of packed boxes
-SECONDS = 120                     # of the processor
+SECONDS = 120                     # of processor time
 
 START, TICK, END = 'start', 'tick', 'end'
 
 
 class Line:
-    """A line of the trace: the script's line of the command that was running, the elements that it is about, why it came, as (line,
-    word) pairs, and what more is known of it."""
+    """A line of the trace: the script's line of the command that was running, the elements that it is about, its causes as pairs
+    (line, word), and what else is known about it."""
     __slots__ = ('text', 'line', 'elements', 'causes', 'more')
 
     def __init__(self, text, line):
@@ -46,10 +46,10 @@ class Line:
 
 
 class Step:
-    """A tick with what came since the tick before, or the time before the first tick, or behind the last one.
+    """A tick with what happened since the previous tick, or the time before the first tick or after the last one.
 
     `since` is the log of the commands before the tick; `commands` are the first and the last of their lines and how many began;
-    `boxes` is the difference to the step before, None where it was left out.
+    `boxes` is the difference from the previous step, None if it was left out.
     """
 
     def __init__(self, kind):
@@ -67,7 +67,7 @@ class Step:
 
 
 class _NotingWorld(World):
-    """A world that knows whether a box may have changed, or a scroll position, since it was asked."""
+    """A world that knows whether a box or a scroll position may have changed since it was last asked."""
 
     def __init__(self, version):
         World.__init__(self, version)
@@ -83,8 +83,8 @@ class _NotingWorld(World):
 
 
 class Recording(Page):
-    """The page whose run is noted, which is a run of the reference as bin/explain wants one, too. `first` is the number of the first
-    tick that is kept; `say` is told now and then how many ticks have run."""
+    """The page whose run is recorded; it also serves bin/explain as a run of the reference. `first` is the number of the first tick
+    that is kept; `say` is called now and then with the number of ticks that have run."""
     seconds, failure = SECONDS, None
 
     def __init__(self, script, first=1, say=lambda ticks: None):
@@ -98,17 +98,17 @@ class Recording(Page):
         self.status, self.page = None, self
         self.boxes_left_out_from = None
         self.packed, self.differences = None, 0
-        self.last_tick = None                                  # (number, State) of the last one of which the boxes are kept
+        self.last_tick = None                                  # (number, State) of the last one whose boxes are kept
         self.level, self.running = None, None                  # in a handler: how deep, and its command's item
         self.last_entry = None
-        self.told, self.lines_left_out = [], 0                 # all that is told, for explanations
+        self.told, self.lines_left_out = [], 0                 # the whole trace, for explanations
         self.begun_by_line = Counter()
         self._forget()
         self.next_say = time.process_time() + 1
         self.end_of_time = self.next_say + SECONDS
 
     def _forget(self):
-        """Begins to keep what comes from here on."""
+        """Forgets what has been recorded, and starts again from here."""
         self.lines, self.told_before, self.kept_commands = [], len(self.told), 0
         self._begin_step(START)
 
@@ -119,8 +119,8 @@ class Recording(Page):
     # --- the run ------------------------------------------------------------------------------------------------------------
 
     def record(self):
-        """Runs the script; `ended` says whether it came to its end, or to a limit, in time. It is stopped as a command begins, and what
-        was noted until then is kept."""
+        """Runs the script; `ended` says whether it reached its end, or a limit, in time. Otherwise it is stopped at the beginning of a
+        command, and what has been recorded by then is kept."""
         went_on = True
         try:
             for command in self.script.commands:
@@ -146,7 +146,7 @@ class Recording(Page):
 
     @property
     def is_beyond(self):
-        """Whether all ticks that are kept have run."""
+        """Whether all ticks that are to be kept have run."""
         return self.ticks >= self.first - 1 + MOST_TICKS
 
     def _begin_tick(self, command):
@@ -220,7 +220,7 @@ class Recording(Page):
                 self._keep(['end'])
 
     def _noted(self, lines, handler, began):
-        """The lines of a callback; behind the last of them its handler begins."""
+        """The lines of a callback; after the last of them its handler begins."""
         yield from lines
         if handler is not None:
             self.level, self.last_entry = 0, None
@@ -229,7 +229,7 @@ class Recording(Page):
                 self._keep(['handler', handler.name, handler.line])
 
     def _takes_room(self):
-        """Whether one more item of a handler is kept."""
+        """Whether there is room for one more item of a handler; if so, it is counted."""
         if self.is_beyond or self.step.kept >= MOST_COMMANDS_OF_A_TICK or self.kept_commands >= MOST_COMMANDS:
             return False
         self.step.kept += 1
@@ -248,7 +248,7 @@ class Recording(Page):
             self.running = outer
 
     def _note_command(self, command):
-        """The command's item, which is kept where there is room for it."""
+        """The command's item, which is kept if there is room for it."""
         is_kept = self._takes_room()
         target = -1 if self.entry is None else self.things.element(self.entry.target)
         if is_kept and self.entry is not None and self.entry is not self.last_entry:

@@ -1,21 +1,21 @@
 'use strict';
-// A line of the trace as a sentence, and the lines of the script that brought it.
+// A line of the trace as a sentence, with the lines of the script that caused it.
 
 const MOST_CAUSES = 3;
-const MOST_LEFT = 10;            // observations of a loop error
-const MOST_SIZES = 8;            // that one command changed
+const MOST_LEFT = 10;            // undelivered observations of a loop error
+const MOST_SIZES = 8;            // sizes changed by one command
 
 class Sentences {
   constructor(trace) { this.trace = trace; }
 
   thing(element) { return html`<button type="button" class="thing" data-element="${element}">${this.trace.name(element)}</button>`; }
-  // The element that a line is about, or its name where a trace stands alone.
+  // The element that a line is about, or just its name if only the trace is shown.
   target(line, name) {
     const elements = this.trace.elements(line);
     return elements.length ? this.thing(elements[0]) : bold(name);
   }
   ref(line) { return html`<button type="button" class="ref" data-script="${line}" title="${this.trace.command(line)}">line ${line}</button>`; }
-  // A command of the script, where it is known with the name for `$target`.
+  // A command of the script, with the target's name for `$target` if that is known.
   code(line, target = -1) {
     const text = this.trace.command(line);
     return html`<code>${target < 0 ? text : text.replace(/\$target/g, this.trace.name(target))}</code>`;
@@ -23,14 +23,14 @@ class Sentences {
   causes(causes) {
     const others = causes.length - MOST_CAUSES;
     const row = ([line, said]) => html`<li>${this.ref(line)} ${this.code(line)} ${word(said)}</li>`;
-    return html`<ul class="causes">${causes.slice(0, MOST_CAUSES).map(row)}${others > 0 && html`<li>and ${counted(others, 'line')} more</li>`}</ul>`;
+    return html`<ul class="causes">${causes.slice(0, MOST_CAUSES).map(row)}${others > 0 && html`<li>and ${counted(others, 'more line')}</li>`}</ul>`;
   }
 
   sentence(line) {
     const words = this.trace.words(line), of = bold(words[1]);
     switch (words[0]) {
       case 'resize': return this.delivery(line, words);
-      case 'intersect': return html`${of} is told that ${this.target(line, words[2])} ${this.meeting(words)}`;
+      case 'intersect': return html`${of} reports that ${this.target(line, words[2])} ${this.meeting(words)}`;
       case 'event': return this.event(line, words);
       case 'timer': return html`Timer ${bold(words[2])} of ${of} is due`;
       case 'frame': return html`Frame callback ${bold(words[2])} of ${of}`;
@@ -41,7 +41,7 @@ class Sentences {
       case 'throw': return html`${this.ref(words[1])} throws ${this.kindOfThrow(line)}: ${this.thrown(line, Number(words[1]))}`;
       case 'limit': return html`${this.ref(words[2])} meets the <b class="bad">limit ${words[1]}</b>, ${number(Number(words[3]))}: ${
         this.code(Number(words[2]))}`;
-      case 'syntax': return html`<b class="bad">No script</b>: its first fault is in ${this.ref(words[1])}, column ${words[2]}`;
+      case 'syntax': return html`<b class="bad">Not a script</b>: the first syntax error is in ${this.ref(words[1])}, column ${words[2]}`;
       default: return html`${words.join(' ')}`;
     }
   }
@@ -53,11 +53,11 @@ class Sentences {
   delivery(line, words) {
     const more = this.trace.more(line), box = more ? more[1] : 'content';
     const size = { content: words.slice(6, 8), border: words.slice(9, 11), device: words.slice(12, 14) }[box].join(' \u00d7 ');
-    const before = !more ? '' : more.length > 2 ? `before ${toldSize(box, more[2], more[3])}` : 'told for the first time';
-    return html`${bold(words[1])} is told ${this.target(line, words[2])}: ${sized(size)} ${OBSERVED[box]}${before && html`, <span class="before">${before}</span>`}`;
+    const before = !more ? '' : more.length > 2 ? `previously ${toldSize(box, more[2], more[3])}` : 'for the first time';
+    return html`${bold(words[1])} reports ${this.target(line, words[2])}: ${sized(size)} ${OBSERVED[box]}${before && html`, <span class="before">${before}</span>`}`;
   }
   meeting(words) {
-    return words[4] === 'yes' ? html`<b>meets</b> its root: ${seenPart(words[5])}` : html`<b>doesn\u2019t meet</b> its root`;
+    return words[4] === 'yes' ? html`<b>intersects</b> its root: ${seenPart(words[5])}` : html`<b>doesn\u2019t intersect</b> its root`;
   }
   reading(line, words) {
     const isScrolled = words[6] !== '0' || words[7] !== '0';
@@ -68,30 +68,30 @@ class Sentences {
     if (words[1] === 'error') return this.loopError(line);
     const elements = this.trace.elements(line), isElement = elements.length && this.trace.name(elements[0]) === words[2];
     const target = words[2].startsWith('@') ? html`the window of ${bold(words[2].slice(1))}` : isElement ? this.thing(elements[0]) : bold(words[2]);
-    const state = words[1] === 'change' && (words[3] === 'true' ? ': it matches now' : ': it doesn\u2019t match any more');
+    const state = words[1] === 'change' && (words[3] === 'true' ? ': it matches now' : ': it no longer matches');
     return html`Event ${bold(words[1])} at ${target}${state}`;
   }
 
   // ---- what went wrong ----
 
-  // A loop error with each observation that was left.
+  // A loop error with each observation that was left undelivered.
   loopError(line) {
     const more = this.trace.more(line);
     if (!more) return html`<b class="bad">Loop error</b>`;
     const left = more.slice(2), others = left.length - MOST_LEFT, many = left.length === 1 ? 'a size was' : `${number(left.length)} sizes were`;
-    const row = ([observer, element, box, depth, told, oldWidth, oldHeight, width, height]) => html`<li>${bold(observer)} was told ${
-      told ? toldSize(box, oldWidth, oldHeight) : 'nothing'} of ${this.thing(element)} at depth ${depth}; its ${OBSERVED[box]} ${
+    const row = ([observer, element, box, depth, told, oldWidth, oldHeight, width, height]) => html`<li>${bold(observer)} ${
+      told ? `last reported ${toldSize(box, oldWidth, oldHeight)}` : 'has reported nothing'} for ${this.thing(element)} at depth ${depth}; its ${OBSERVED[box]} ${
       box === 'device' ? 'are' : 'is'} ${sized(toldSize(box, width, height))} now</li>`;
-    return html`<b class="bad">Loop error</b>: ${many} left untold. The loop had come to depth ${more[1]}, and tells only what is deeper.
+    return html`<b class="bad">Loop error</b>: ${many} left unreported. The loop had reached depth ${more[1]}, and delivers only what is deeper.
       <ul class="left">${left.slice(0, MOST_LEFT).map(row)}${others > 0 && html`<li>and ${number(others)} more</li>`}</ul>`;
   }
-  // One sentence on a loop error, for the head of its tick.
+  // A loop error in one sentence, for the heading of its tick.
   shortError(line) {
     const left = this.trace.more(line).slice(2), [, element, box, , told, oldWidth, oldHeight, width, height] = left[0], others = left.length - 1;
     const by = this.trace.causes(line).filter(([, said]) => said === 'changed the size').pop();
-    return html`<b class="bad">Loop error</b> in ${bold(this.trace.words(line)[2].slice(1))}: ${this.thing(element)} was told ${
-      told ? toldSize(box, oldWidth, oldHeight) : 'nothing'} and is ${sized(toldSize(box, width, height))}${
-      by && html` since ${this.ref(by[0])} ${this.code(by[0])}`}${others > 0 && (others === 1 ? '; so is one more' : `; so are ${number(others)} more`)}.`;
+    return html`<b class="bad">Loop error</b> in ${bold(this.trace.words(line)[2].slice(1))}: ${this.thing(element)} ${
+      told ? `was last reported as ${toldSize(box, oldWidth, oldHeight)}` : 'hasn\u2019t been reported'} and is ${sized(toldSize(box, width, height))}${
+      by && html` since ${this.ref(by[0])} ${this.code(by[0])}`}${others > 0 && `; ${counted(others, 'more size')} ${others === 1 ? 'is' : 'are'} unreported`}.`;
   }
   trouble(line) { return this.trace.isError(line) && this.trace.more(line) ? this.shortError(line) : this.sentence(line); }
 

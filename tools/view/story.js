@@ -1,16 +1,16 @@
 'use strict';
-// A tick in words: what happened in it, in the order in which it happened.
+// A tick in words: what happened in it, in order.
 
-const MOST_SHOWN = 40;           // items of one group, before a button shows the others
-const MOST_OUTSIDE = 12;         // commands before a tick that are all shown
+const MOST_SHOWN = 40;           // items of a group before a button for the others
+const MOST_OUTSIDE = 12;         // up to this many, all commands before a tick are shown
 const MOST_TROUBLES = 3;
 const LOOP = 'Resize loop';
 const PHASES = [
   ['timer', 'Timers'], ['event resize', 'Resized viewports'], ['event scroll', 'Scrolls'], ['event change', 'Media queries'],
   ['frame', 'Frame callbacks'], ['resize', LOOP], ['round', LOOP], ['event error', LOOP], ['intersect', 'Intersections'],
-  ['task', 'Tasks'], ['limit', 'A limit'], ['syntax', 'No script'],
+  ['task', 'Tasks'], ['limit', 'Limit'], ['syntax', 'Not a script'],
 ];
-const NOTHING = 'No timer was due, no observed size had changed, no target came into view or left it, and no task waited.';
+const NOTHING = 'No timer was due, no observed size had changed, no target came into view or left it, and no task was waiting.';
 
 class Story {
   constructor(trace, sentences) { Object.assign(this, { trace, sentences, all: false }); }
@@ -21,7 +21,7 @@ class Story {
     const text = this.trace.text(line), found = PHASES.find(([begin]) => text === begin || text.startsWith(begin + ' '));
     return found ? found[1] : '';
   }
-  // { title, items } of each phase, of a resize loop { title, document, rounds }. An item is one of the log, or a call with its own.
+  // { title, items } for each phase, and { title, document, rounds } for a resize loop. An item is one of the log, or a call with its own items.
   phases(log) {
     const phases = [];
     let call = null;
@@ -40,7 +40,7 @@ class Story {
     }
     return phases.flatMap(one => one.title === LOOP ? this.loops(one.items) : [one]);
   }
-  // The items of resize loops by documents. A line `round` ends a round and names its document, and so does an error for the loop.
+  // The items of resize loops by document. A line `round` ends a round and names its document; a loop error does the same for the loop.
   loops(items) {
     const loops = [];
     for (const round of this.rounds(items)) {
@@ -69,7 +69,7 @@ class Story {
     return rounds;
   }
 
-  // ---- what stands in the page ----
+  // ---- what the page shows ----
 
   told(step, chosen) {
     const parts = this.phases(step.log).map(phase => phase.title === LOOP ? this.loop(phase, chosen) : this.phase(phase, chosen));
@@ -77,7 +77,7 @@ class Story {
     return html`${this.sinceBefore(step, chosen)}${parts}${isQuiet && html`<p class="after">${NOTHING}</p>`}${
       step.notKept && html`<p class="after">${counted(step.notKept, 'command')} of handlers in this tick are left out.</p>`}`;
   }
-  // What went wrong in a tick, in a sentence each.
+  // What went wrong in a tick, a sentence for each.
   troubles(step) {
     const lines = this.trace.linesOf(step).filter(line => this.trace.isTroubleLine(line)), others = lines.length - MOST_TROUBLES;
     return html`${lines.slice(0, MOST_TROUBLES).map(line => html`<li>${this.sentences.trouble(line)}</li>`)}${
@@ -95,14 +95,14 @@ class Story {
   }
   round({ items, depth, ended }, count, chosen) {
     return html`<div class="round"><h4>Round ${count}</h4><ol class="items">${this.some(items, chosen)}</ol>${
-      ended < 0 ? html`<p class="after">The loop broke off here: its document ended, a limit was met, or the run was stopped.</p>`
-        : html`<p class="after" ${this.mark(ended, chosen)}>The least depth told is ${depth}: a next round tells only what is deeper. <code class="trace">${
+      ended < 0 ? html`<p class="after">The loop was cut short here: its document ended, a limit was met, or the run was stopped.</p>`
+        : html`<p class="after" ${this.mark(ended, chosen)}>The least depth delivered is ${depth}: another round delivers only what is deeper. <code class="trace">${
           this.trace.text(ended)}</code></p>`}</div>`;
   }
   mark(line, chosen) {
     return html`data-line="${line}" tabindex="${line === chosen ? 0 : -1}"${line === chosen && html` aria-current="true"`}`;
   }
-  // The first items of a list, with the chosen one, and of the others those that went wrong; a button shows all.
+  // The first items of a list, up to the chosen one at least; then a button for all, and those of the others that went wrong.
   some(items, chosen) {
     const has = item => item.call ? item.items.some(has) : item[0] === 'line' && item[1] === chosen;
     const most = this.all ? Infinity : Math.max(MOST_SHOWN, 1 + items.findIndex(has)), others = items.slice(most);
@@ -121,7 +121,7 @@ class Story {
     return html`<li class="call"><div class="said">Handler ${bold(call)}, ${this.sentences.ref(line)}${isEmpty && ', does nothing'}</div>${
       items.length > 0 && html`<ol class="commands">${this.some(items, chosen)}</ol>`}</li>`;
   }
-  // A line of the trace; `isOwn` says that the command that wrote it stands right above it.
+  // A line of the trace; `isOwn` says that the command that wrote it is shown right above it.
   line(line, chosen, isOwn) {
     const left = isOwn ? ['threw', 'met it', 'wrote it'] : ['threw', 'met it'], explanation = this.trace.explanation(line);
     const causes = this.trace.causes(line).filter(([, said]) => !left.includes(said));
@@ -142,13 +142,13 @@ class Story {
   sinceBefore(step, chosen) {
     const [first, last, count] = step.commands;
     if (!count) return '';
-    const titles = { tick: 'Since the tick before', start: 'Before the first tick', end: this.trace.data.ticks ? 'Behind the last tick' : 'In the script' };
+    const titles = { tick: 'Since the previous tick', start: 'Before the first tick', end: this.trace.data.ticks ? 'After the last tick' : 'In the script' };
     const isShort = count <= MOST_OUTSIDE, items = isShort ? this.withCommands(step.since, first, last) : step.since;
     return html`<section class="phase"><h3>${titles[step.kind]} <span class="count">${counted(count, 'command')}</span></h3>${
       !isShort && html`<p class="after">From ${this.sentences.ref(first)} to ${this.sentences.ref(last)}${items.length > 0 && '; among them'}</p>`}${
       items.length > 0 && html`<ol class="items outside">${this.some(items, chosen)}</ol>`}</section>`;
   }
-  // The log with all commands of these lines, each before what it brought.
+  // The log with all commands of these lines, each before its effects.
   withCommands(log, first, last) {
     const of = line => log.filter(item => item[0] === 'line' && this.trace.ranAt(item[1]) === line);
     const sizes = line => log.filter(item => item[0] === 'command' && item[1] === line).flatMap(item => item[5]);

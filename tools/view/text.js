@@ -1,5 +1,5 @@
 'use strict';
-// Text for the page. It comes into the page through `html` alone, which escapes what it is given.
+// Text for the page. All of it goes through `html`, which escapes the values that it is given.
 
 class Html { constructor(text) { this.text = text; } }
 const ESCAPES = { '&': '&amp;', '<': '&lt;', '>': '&gt;', '"': '&quot;', "'": '&#39;' };
@@ -17,7 +17,7 @@ const counted = (count, one, many = one + 's') => `${number(count)} ${count === 
 function listed(parts) {
   return parts.length < 2 ? parts.join('') : parts.slice(0, -1).join(', ') + ' and ' + parts[parts.length - 1];
 }
-// What is observed, and a size of it: the box `device` is the content box in device pixels.
+// What is observed, and its size: the box `device` is the content box in device pixels.
 const OBSERVED = { content: 'content box', border: 'border box', device: 'device pixels' };
 const toldSize = (box, width, height) => box === 'device' ? `${width} \u00d7 ${height}` : sizeText(width, height);
 const word = said => html`<span class="word">${said}</span>`;
@@ -25,15 +25,15 @@ const bold = said => html`<b>${said}</b>`;
 const sized = said => html`<b class="size">${said}</b>`;
 // Text with names between backquotes.
 const quoted = text => text.split('`').map((part, at) => at % 2 ? bold(part) : html`${part}`);
-// The part of an intersection that is seen.
+// The visible part of an intersection.
 function seenPart(text) {
   const [part, whole] = text.split('/').map(BigInt);
-  if (part === whole) return 'all of it';
-  if (part === 0n) return 'nothing of it, edges touch';
+  if (part === whole) return 'all of it is visible';
+  if (part === 0n) return 'only edges touch';
   const about = part * 10000n % whole === 0n ? '' : 'about ';
-  return `${about}${Number(part * 10000n / whole) / 100}% of it`;
+  return `${about}${Number(part * 10000n / whole) / 100}% of it is visible`;
 }
-// The lines of an explanation: what is set in stands as it is.
+// The lines of an explanation; indented ones are preformatted.
 function explained(lines) {
   const parts = [];
   for (const line of lines) {

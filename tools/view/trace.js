@@ -1,5 +1,5 @@
 'use strict';
-// The lines of the trace, and what the lines of a tick come to.
+// The lines of the trace, and summaries of those of a tick.
 
 const COUNTED = { round: 'rounds', resize: 'sizes', intersect: 'meetings', throw: 'throws', limit: 'limits', timer: 'callbacks',
   frame: 'callbacks', task: 'callbacks', syntax: 'faults', say: 'words', read: 'words', take: 'words' };
@@ -18,7 +18,7 @@ class Trace {
   isError(line) { return this.text(line).startsWith('event error'); }
   isTroubleLine(line) { return this.isError(line) || ['throw', 'limit', 'syntax'].includes(this.kind(line)); }
   name(element) { return this.data.elements[element][0]; }
-  // A line of the script: its words, without a comment.
+  // A line of the script, without its comment and with single spaces.
   command(line) {
     const script = this.data.script, text = (Array.isArray(script) ? script[line - 1] : script[line]) || '';
     return text.trim().replace(/\s+/g, ' ').replace(/(^| )#.*/, '');
@@ -38,17 +38,17 @@ class Trace {
     const { errors, throws, limits, faults } = this.counts(step);
     return errors + throws + limits + faults > 0;
   }
-  // [class, words] for a tick's button: what is most of note stands first.
+  // [class, words] for a tick's button, the most notable first.
   badges(step) {
     const { rounds, sizes, errors, events, meetings, throws, limits, callbacks, faults } = this.counts(step);
     const found = [
-      faults && ['bad', 'no script'], limits && ['bad', 'limit'], errors && ['bad', errors > 1 ? `${errors} loop errors` : 'loop error'],
-      throws && ['odd', counted(throws, 'throw')], rounds && ['', counted(rounds, 'round')],
+      faults && ['bad', 'not a script'], limits && ['bad', 'limit'], errors && ['bad', errors > 1 ? `${errors} loop errors` : 'loop error'],
+      throws && ['odd', counted(throws, 'exception')], rounds && ['', counted(rounds, 'round')],
       sizes && !rounds && ['', counted(sizes, 'size')], events && ['', counted(events, 'event')],
       meetings && ['', counted(meetings, 'intersection')], callbacks && ['', counted(callbacks, 'callback')],
       step.linesNotKept && ['', 'lines left out'],
     ].filter(Boolean);
-    return found.length ? found : [['quiet', step.kind === 'tick' ? 'quiet' : counted(step.commands[2], 'command')]];
+    return found.length ? found : [['quiet', step.kind === 'tick' ? 'nothing' : counted(step.commands[2], 'command')]];
   }
   summary(step) {
     const { rounds, sizes, errors, events, meetings, throws, callbacks, words } = this.counts(step);
@@ -58,8 +58,8 @@ class Trace {
       sizes && `${counted(sizes, 'size')} in ${counted(rounds, 'round')} of the resize loop`, errors && counted(errors, 'loop error'),
       meetings && counted(meetings, 'intersection'), throws && counted(throws, 'exception'),
       words && `${counted(words, 'line')} that the script wrote`,
-      left && `${counted(left, 'line')} of the trace that ${left === 1 ? 'is' : 'are'} left out here`,
+      left && `${counted(left, 'line')} of the trace left out here`,
     ].filter(Boolean);
-    return told.length ? `Told: ${listed(told)}.` : 'Nothing was told.';
+    return told.length ? `Reported: ${listed(told)}.` : 'Nothing was reported.';
   }
 }

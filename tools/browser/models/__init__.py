@@ -1,7 +1,7 @@
-"""What an engine does in place of the rules: the reference program of tools/reference with the differences of docs/BROWSERS.md put in.
+"""Models of the engines: the reference program of tools/reference, modified by the differences of docs/BROWSERS.md.
 
-A Model runs a script beside a browser's trace. Each difference is a class with a name, and can be left out; `met` has the classes that
-made something else happen than the rules. Where an engine goes by the addresses of things, the model takes the order that the trace has.
+A Model runs a script and follows a browser's trace. Each difference is a class with a name, and can be left out; `met` contains the
+classes that made the run deviate from the rules. If an engine's order depends on memory addresses, the model takes it from the trace.
 """
 import os
 import sys

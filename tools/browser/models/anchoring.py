@@ -1,33 +1,33 @@
-"""CSS Scroll Anchoring, as the model of an engine has it: an offset moves with the first box in view."""
+"""CSS Scroll Anchoring as an engine implements it: a scroll offset follows the first box in view."""
 from reference.world import ACTIVE, Document, path
 
 from .layout import whole
 from .traits import ANCHORS_BEFORE_LAYOUT, LATE_SCROLLS
 
-# A change of one of these, on the way from the box up to what scrolls, leaves the offset alone.
+# If one of these changes on an element between the anchor and the scroll container, the offset isn't adjusted.
 QUIETING = ('width', 'height', 'min-', 'max-', 'margin', 'padding')
 
 
 class Anchors:
     def __init__(self, model):
         self.model = model
-        self.kept = {}            # what is scrolled -> the box, or None, and where it was
-        self.laid = {}            # what is scrolled -> box -> its bounds and its place, as they were laid out last
-        self.quiet = set()        # elements with a change that leaves offsets alone, since the last layout
+        self.kept = {}            # what is scrolled -> its anchor, or None, and the anchor's position
+        self.laid = {}            # what is scrolled -> box -> its bounds and its position at the last layout
+        self.quiet = set()        # elements with a change since the last layout that suppresses adjustments
 
     def changes(self, node, property_):
         if property_.startswith(QUIETING):
             self.quiet.add(node)
 
     def scrolls(self, thing):
-        """The box is looked for anew as something is scrolled."""
+        """Selects a new anchor when something is scrolled."""
         self.kept.pop(thing, None)
         self.keep(thing)
         if thing.scroll[1]:
             self.remember(thing)
 
     def removed(self, node):
-        """A box goes, or is made anew: it is no anchor any more, and has no place before the next layout."""
+        """A box is removed or created anew: it is no longer an anchor, and has no position before the next layout."""
         for thing, (box, _) in list(self.kept.items()):
             if box is node:
                 del self.kept[thing]
@@ -35,7 +35,7 @@ class Anchors:
             known.pop(node, None)
 
     def scrolled_in(self, document):
-        """What is scrolled in a document, and has a box."""
+        """What is scrolled in a document and has a box."""
         layout = self.model.world.layout
         if document.scroll[1] and (document.frame is None or layout.has_box(document.frame)):
             yield document
@@ -44,7 +44,7 @@ class Anchors:
                 yield node
 
     def moved(self, document):
-        """(thing, by how much) for each offset that is to move, as a document has been laid out."""
+        """(thing, by how much) for each offset to be adjusted when a document has been laid out."""
         layout = self.model.world.layout
         for thing in self.scrolled_in(document):
             box, place = self.kept.get(thing, (None, 0))
@@ -59,27 +59,27 @@ class Anchors:
                 yield thing, by
 
     def rounded(self, place):
-        """Where offsets are of whole pixels each of two places is rounded."""
+        """If offsets are whole pixels, each of two positions is rounded."""
         return whole(place) if self.model.has(LATE_SCROLLS) else place
 
     def is_gone(self, thing, box):
         return box is None or not self.model.world.layout.has_box(box) or not self.holds(thing, box)
 
     def as_laid(self, thing):
-        """The first box in view of those that were there at the last layout and still are, and where it was."""
+        """The first box in view among those that existed at the last layout and still do, and its position then."""
         known, layout = self.laid.get(thing, {}), self.model.world.layout
         box = self.first_in_view(thing, lambda node: known[node][0] if node in known and layout.has_box(node) else None)
         return box, box and known[box][1]
 
     def settle(self, document):
-        """Remembers where the boxes are, as a layout has ended."""
+        """Remembers the positions of boxes at the end of a layout."""
         for thing in self.scrolled_in(document):
             self.keep(thing)
             self.remember(thing)
         self.quiet = {node for node in self.quiet if node.document is not document}
 
     def remember(self, thing):
-        """Where the boxes in it are, as it was laid out just now."""
+        """Remembers the positions of the boxes in something that has just been laid out."""
         if self.model.has(ANCHORS_BEFORE_LAYOUT):
             document = thing if isinstance(thing, Document) else thing.document
             boxes = [node for node in self.model.world.layout._boxes_of(document) if self.holds(thing, node)]
@@ -121,7 +121,7 @@ class Anchors:
         return self.search(first, (left, top, left + size[0], top + size[1]), bounds_of)
 
     def search(self, nodes, view, bounds_of):
-        """The first that is wholly in view, or of which a part is and no box in it."""
+        """The first box that is entirely in view, or partly in view with no such box in it."""
         for node in nodes:
             bounds = bounds_of(node)
             if bounds is None:
@@ -133,7 +133,7 @@ class Anchors:
         return None
 
     def bounds(self, node):
-        """The border box, and below it what comes out of it."""
+        """The border box, extended downwards by what overflows it."""
         layout = self.model.world.layout
         left, top = layout.flat_place(node)
         width, height = layout.border_size(node)

@@ -1,4 +1,4 @@
-"""The classes that each engine has, and those in which a trace stands."""
+"""The classes that each engine has, and those that a trace is in."""
 import functools
 import itertools
 import re
@@ -40,7 +40,7 @@ WEBKIT = ALL_THREE | {BEGIN_IS_THERE, CROSSED_IS_TURNED, DEAD_ROOTS_OF_A_LIST, E
     told-of-dead-root clips-of-border-boxes callback-out-of-view static-place-read cut-in-a-frame'''.split())
 CLASSES = {'chromium': CHROMIUM, 'firefox': FIREFOX, 'webkit': WEBKIT}
 NUMBER = re.compile(r'-?\d+(?:\.\d+)?(?:/\d+)?')
-# Pixels, by which sums of sixtieths, percentages of margins, and lengths of a script that sets a ratio may differ.
+# How many pixels sums of sixtieths, percentages of margins, and lengths in a script that sets a ratio may differ by.
 NEAR = {'firefox': 0.15, 'webkit': 0.05, 'chromium': 0.15}
 PARTS = {'firefox': 'sixtieths-of-a-pixel', 'webkit': 'margin-of-part-pixels', 'chromium': 'lengths-at-a-ratio'}
 RATIO = re.compile(r'^[ \t]*ratio[ \t]', re.M)
@@ -48,7 +48,7 @@ RATIO = re.compile(r'^[ \t]*ratio[ \t]', re.M)
 
 @functools.lru_cache(1)
 def script_of(text):
-    """The script, which runs leave as it is: each class is left out of a run of its own."""
+    """The script, which runs don't change, since each class is left out in a run of its own."""
     return grammar.parse(text.encode('latin-1'))
 
 
@@ -60,11 +60,11 @@ def run(text, classes, told=(), order=None):
 
 
 class Another(Exception):
-    """A line that isn't the browser's."""
+    """A line differs from the browser's."""
 
 
 class Compared(list):
-    """The lines of a run that is left at the first one that isn't the browser's."""
+    """The lines of a run, which is abandoned at the first one that differs from the browser's."""
 
     def __init__(self, told, engine, text):
         super().__init__()
@@ -96,8 +96,8 @@ def by_rules(text):
 
 
 def alike(lines, told, engine, text):
-    """Whether both traces are the same; in Firefox up to parts of a pixel, in WebKit so in lines of intersections, in Chromium so where
-    the script sets a ratio."""
+    """Whether both traces are the same; up to fractions of a pixel in Firefox, in WebKit's lines of intersections, and in Chromium if the
+    script sets a ratio."""
     if lines == told:
         return True
     if engine == 'chromium' and not RATIO.search(text):
@@ -106,7 +106,7 @@ def alike(lines, told, engine, text):
 
 
 def near(line, other, engine):
-    """The tool marks a ratio that isn't the one of its rectangles."""
+    """Whether two lines differ only by such fractions. The tool marks an intersection ratio that isn't that of its rectangles with `~`."""
     other = other.replace('~', '')
     if line == other:
         return True
@@ -122,7 +122,7 @@ def number(text):
 
 
 def orders(text, engine, told):
-    """The orders of documents that are tried: None is the one in which their frames were inserted; Firefox has any order."""
+    """The orders of documents to be tried: None is the order in which their frames were inserted; Firefox may have any order."""
     yield None
     names = [line.split()[3] for line in text.splitlines() if line.startswith('frame ')]
     if engine == 'firefox' and 1 < len(names) < 6:
@@ -131,7 +131,7 @@ def orders(text, engine, told):
 
 
 def classes_of(text, engine, told):
-    """The classes of a trace: none where it is the rules' one, None where the model doesn't give it."""
+    """The classes that a trace is in, or None if the model doesn't give it."""
     for order in orders(text, engine, told):
         first = run(text, CLASSES[engine], told, order)
         if alike(first.lines, told, engine, text):
@@ -148,12 +148,12 @@ def classes_of(text, engine, told):
 
 
 def named(classes):
-    """Those that aren't ways of an engine to have another one."""
+    """Those that are classes, not traits."""
     return {name for name in classes if ' ' not in name}
 
 
 def one_of(text, engine, told, order, names):
-    """Where each class alone may be left out: those that stay as they are left out one after the other."""
+    """If each class can be left out by itself: the classes that remain when they are left out one after another."""
     left, waiting, needed = CLASSES[engine], sorted(names), set()
     while waiting:
         name = waiting.pop(0)

@@ -1,4 +1,4 @@
-"""Commands that an engine has otherwise, or that lay out."""
+"""Commands that an engine runs differently, or that cause layout."""
 from reference import trace
 from reference.commands import EFFECTS
 from reference.media import matches
@@ -11,13 +11,13 @@ from .traits import (BEGIN_IS_THERE, DEAD_READS_THROW, FIRST_USE_COUNTS, FRAMES_
                      NOTHING_FOR_DETACHED, QUEUES_WAIT, SCROLLS_ARE_CUT, WINDOWS_READ_AT_ONCE)
 
 SCROLLING = ('hidden', 'scroll', 'auto')
-# By which property the tool sets each field as it makes an element: what is set by another one is a change, whatever its value.
+# The property with which the tool sets each field when it creates an element: setting it with another one is a change, whatever the value.
 GIVEN = dict([(name, name) for name in ('display', 'box-sizing', 'min-width', 'min-height')] + [
     (edge + side, edge) for edge in ('margin', 'padding') for side in ('-top', '-right', '-bottom', '-left')])
 
 
 class Commands:
-    """A part of Model."""
+    """A mixin of Model."""
 
     def do_viewport(self, command, width, height):
         EFFECTS['viewport'](self, command, width, height)
@@ -35,7 +35,7 @@ class Commands:
             self.rescaled = True
 
     def kept_size(self, document):
-        """Of a document whose frame has no box."""
+        """The viewport's size of a document whose frame has no box."""
         return (0, 0) if self.has(HIDDEN_READS_NOTHING) else self.known.get(document, (0, 0))
 
     def do_read(self, command, thing):
@@ -46,14 +46,14 @@ class Commands:
         self.lay_out_for_reading(thing)
         layout = self.world.layout
         if isinstance(thing, Document) and self.world.pixel_ratio != ONE:
-            # A window tells its size in whole pixels.
+            # A window gives its size in whole pixels.
             units = (0, 0) + tuple(map(whole, layout.viewport(thing))) + layout.document_offset(thing)
             self.tell(trace.read_line(thing.name, units))
         else:
             EFFECTS['read'](self, command, thing)
 
     def reads_as_laid(self, node):
-        """Whether a box out of flow, or one in it, is told where it was at the last layout."""
+        """Whether an out-of-flow box, or one in it, is read where it was at the last layout; if so, writes the line."""
         if not self.stands_as_laid(node):
             return False
         layout = self.world.layout
@@ -66,7 +66,7 @@ class Commands:
         return True
 
     def stands_as_laid(self, node):
-        """Whether a reading lays nothing out: nothing has changed of a box out of flow, or of what is around and before it in there."""
+        """Whether a read causes no layout: nothing has changed in the out-of-flow box around it, nor around or before the element there."""
         layout = self.world.layout
         if not self.has('static-place-read') or node not in self.laid_places or not layout.has_box(node) or None in self.touched:
             return False
@@ -87,7 +87,7 @@ class Commands:
         return node.parent.children[:node.parent.children.index(node)]
 
     def lay_out_for_reading(self, thing):
-        """A window that isn't scrolled may tell what it has; only what is around its frame is laid out then."""
+        """A window that isn't scrolled may give what is known; then only the documents around its frame are laid out."""
         if not isinstance(thing, Document):
             self.lay_out_around(thing)
         elif thing.scroll != (0, 0) or not self.has(WINDOWS_READ_AT_ONCE):
@@ -96,7 +96,7 @@ class Commands:
             self.lay_out(thing.frame.document, thing)
 
     def lay_out_around(self, node):
-        """For an element that stands nowhere an engine may lay nothing out, and for one out of flow."""
+        """An engine may not lay out anything for an element that is in no tree, or for an out-of-flow one."""
         if (tree_document(node) is not None or not self.has(NOTHING_FOR_DETACHED)) and not self.stands_as_laid(node):
             self.lay_out(node.document)
 
@@ -111,7 +111,7 @@ class Commands:
         self.scroll_anew('scroll', command, thing, left, top)
 
     def is_begin_there(self, thing):
-        """Whether scrolling to the begin lays nothing out: a window's, or that of what is there."""
+        """Whether scrolling to the beginning causes no layout: for a window, or for what is already there."""
         if self.has(BEGIN_IS_THERE):
             return thing.scroll == (0, 0) and (isinstance(thing, Document) or thing.root_of is None)
         return isinstance(thing, Document)
@@ -125,7 +125,7 @@ class Commands:
         before = scrolled.scroll
         EFFECTS[name](self, command, thing, *self._whole_position(left, top))
         if scrolled.scroll != before:
-            # The event of this place is the only one.
+            # Only one event is fired for it.
             self.late_scrolls = [late for late in self.late_scrolls if late[0] is not scrolled]
             self.view_changes()
         self.anchor_anew(scrolled)
@@ -155,7 +155,7 @@ class Commands:
             if had_box or self.has_box_here(node):
                 self.unlaid.add(node.document)
         if 'absolute' in (style['position'], node.style['position']) and style['position'] != node.style['position']:
-            # What becomes absolute, or ceases to be, has all laid out.
+            # An element that becomes absolute, or ceases to be, causes layout of everything.
             self.touched.add(None)
         if property_ == 'overflow' and (style['overflow'] in SCROLLING) != (node.style['overflow'] in SCROLLING):
             self.made_anew(node)
@@ -163,7 +163,7 @@ class Commands:
                 self.new_scrollers.add(node)
 
     def made_anew(self, node):
-        """An element becomes a scroll container or ceases to be one: its box and those in it are made anew."""
+        """An element becomes a scroll container or ceases to be one: its box and those in it are created anew."""
         inner = [other.framed for other in preorder(node) if other.framed is not None]
         if inner and node.root_of is None and self.has('frame-made-anew'):
             self.to_be_made.setdefault(node.document, set()).update(inner)
@@ -186,7 +186,7 @@ class Commands:
             self.unlaid.add(node.document)
 
     def has_box_here(self, node):
-        """Whether an element has a box, where the engine asks for it."""
+        """Whether an element has a box, if the engine needs to know."""
         return self.has('told-in-the-update') and self.world.layout.has_box(node)
 
     def changed_in(self, document):
@@ -220,7 +220,7 @@ class Commands:
         self._tool_observes(observer, node)
 
     def _tool_observes(self, observer, node):
-        """What the tool knows of reported sizes begins anew, and the target comes last."""
+        """The tool forgets the target's reported size, and puts the target last."""
         seen = self.tool_saw.setdefault(observer, {})
         seen.pop(node, None)
         seen[node] = None
@@ -247,7 +247,7 @@ class Commands:
             self.observed_late.add(observer.registrations[node])
 
     def comes_last(self, observer):
-        """An intersection observer comes into a document's list, with a first target or as its root is adopted."""
+        """An intersection observer enters a document's list, with its first target or when its root is adopted."""
         known = self.world.intersection_observers
         if known[-1] is not observer and self.differs('intersection-observers-by-use'):
             known.remove(observer)

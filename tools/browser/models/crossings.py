@@ -1,4 +1,4 @@
-"""What an engine's intersection observers find, and when it tells them."""
+"""What an engine's intersection observers find, and when they are notified."""
 from reference import intersection, trace
 from reference.lengths import percentage
 from reference.world import ACTIVE, Document, Element, tree_document
@@ -9,13 +9,13 @@ from .traits import (CROSSED_IS_TURNED, DEAD_ROOTS_OF_A_LIST, EDGES_REACH_OUT, E
 
 
 class Margins:
-    """The margins of an observer as an engine has them; `name` is the class of percentages of heights."""
+    """The margins of an observer as an engine applies them; `name` is the class for percentages of heights."""
 
     def __init__(self, model, margins, name):
         self.model, self.margins, self.name = model, margins, name
 
     def of(self, rectangle):
-        """By how much they move the top, right, bottom and left of a rectangle."""
+        """How far they expand a rectangle at the top, right, bottom and left."""
         left, top, right, bottom = rectangle
         return [self._length(amount) if unit == 'px' else self._percentage(side, amount, right - left, bottom - top)
                 for side, (unit, amount) in enumerate(self.margins or [('px', 0)] * 4)]
@@ -45,7 +45,7 @@ def is_crossed(rectangle):
 
 
 def uncrossed(model, rectangle):
-    """Without a negative size, where the engine has none."""
+    """The rectangle without a negative size, if the engine has none."""
     if not is_crossed(rectangle) or not model.differs('crossed-root') or model.has(CROSSED_IS_TURNED):
         return rectangle
     left, top, right, bottom = rectangle
@@ -53,7 +53,7 @@ def uncrossed(model, rectangle):
 
 
 class EngineRoot(intersection.RootRectangle):
-    """A root rectangle with an engine's margins; `told` is what an entry shows of it."""
+    """A root rectangle with an engine's margins; `told` is the one that entries report."""
 
     def __init__(self, model, observer):
         super().__init__(model.world, observer)
@@ -62,7 +62,7 @@ class EngineRoot(intersection.RootRectangle):
             told = grown(self.own, margins.of(self.own))
             moved = grown(told, self._by_scroll_margins(model, observer, told))
         else:
-            # Where every root is moved, a percentage of the root margin is of what the scroll margin made of it.
+            # If every root is expanded, percentages of the root margin refer to the rectangle expanded by the scroll margin.
             more = self._by_scroll_margins(model, observer, self.own)
             by = margins.of(grown(self.own, more) if model.has(EVERY_ROOT) else self.own)
             told = moved = grown(grown(self.own, more), by)
@@ -78,10 +78,10 @@ class EngineRoot(intersection.RootRectangle):
 
 
 class Crossings:
-    """A part of Model."""
+    """A mixin of Model."""
 
     def observers_of(self, document):
-        """Those that are looked at with a document."""
+        """The observers that are updated with a document."""
         return [observer for observer in self.world.intersection_observers if self.looks_at(document, observer)]
 
     def looks_at(self, document, observer):
@@ -99,13 +99,13 @@ class Crossings:
         return where is document
 
     def is_root_away(self, observer):
-        """Whether a root stands nowhere and has moved to another document after it was taken out, as that may count as being in none."""
+        """Whether a root is in no tree and was adopted by another document after its removal, which may count as belonging to none."""
         root = observer.root
         return (isinstance(root, Element) and tree_document(root) is None and self.put_in.get(root, root.document) is not root.document
                 and self.has(ROOTS_GO_AWAY))
 
     def intersections(self, document, known=()):
-        """Looks at a document's observers; `known` has the entries that were found before, by their registrations."""
+        """Updates a document's observers; `known` has entries that were found before, by registration."""
         if self.waits_unshown(document):
             return
         for observer in self.observers_of(document):
@@ -116,7 +116,7 @@ class Crossings:
                 self.observed_late.discard(registration)
 
     def found(self, observer, known=()):
-        """(registration, entry) of each target that is looked at."""
+        """(registration, entry) for each target that is updated."""
         if observer.document.state is not ACTIVE and self.has('entries-of-dead-document'):
             return
         root = EngineRoot(self, observer)
@@ -125,18 +125,18 @@ class Crossings:
                 yield registration, known[registration] if registration in known else self.find(observer, root, registration)
 
     def found_in(self, document):
-        """What there is to be found with a document now, by registrations."""
+        """What the observers of a document find now, by registration."""
         return {registration: entry for observer in self.observers_of(document) for registration, entry in self.found(observer)}
 
     def tells_in_update(self):
-        """Whether entries are told within the update; tasks that wait come before them then by the rules."""
+        """Whether entries are delivered within the update; by the rules, waiting tasks would come before them."""
         if not self.has('told-in-the-update') or self.world.tasks and not self.differs('entries-before-tasks'):
             return False
         return self.differs('told-in-the-update')
 
     def crossings_by_turns(self, documents):
-        """Looks at one document after the other and tells its entries at once. One that a callback has changed, so that it isn't laid
-        out, is left for the next update; one around which something has changed stands as it was laid out."""
+        """Updates one document after another and delivers its entries at once. A document that a callback has changed, so that it needs
+        layout, is left for the next update; if something around a document has changed, the layout before the change is used."""
         self.found_before = {document: self.found_in(document) for document in documents}
         self.changed_documents.clear()
         self.broken.clear()
@@ -149,7 +149,7 @@ class Crossings:
         self.found_before = {}
 
     def find_again(self):
-        """A callback has laid out something: where nothing waits for a layout any more, this is what there was before."""
+        """A callback has caused layout: for documents that no longer need layout, what their observers find is computed again."""
         for document in self.found_before:
             if document.state is ACTIVE and document not in self.changed_documents and not self.is_changed_around(document):
                 self.found_before[document] = self.found_in(document)
@@ -162,8 +162,8 @@ class Crossings:
         return False
 
     def passes_over(self, observer, registration):
-        """Whether a target is left alone: its observer has no root, and it stands in no shown document and isn't where it stood last; or its
-        observer's root is away, unless it was observed since."""
+        """Whether a target is skipped: its observer has no root, and it is in no Active document and not in its last one; or its observer's
+        root is away, unless it was observed since."""
         if self.is_root_away(observer) and registration not in self.observed_late:
             return True
         target = registration.target
@@ -205,14 +205,14 @@ class Crossings:
         return False
 
     def cut_off(self, root, target):
-        """The entry of such a target: its box, with nothing of it seen."""
+        """The entry of such a target: its box, with nothing visible."""
         layout, entry = self.world.layout, intersection.Entry(target, root.rectangle)
         entry.box = intersection.seen_from(layout.origin(target.document), layout.border_rectangle(target))
         entry.whole = intersection.area(entry.box) or 1
         return entry
 
     def move_clips(self, observer, entry):
-        """By the engine's scroll margins."""
+        """Expands the clips by the engine's scroll margins."""
         layout, margins = self.world.layout, Margins(self, observer.scroll_margins, 'scroll-margin-percentages')
         for clip in entry.clips[1:-1]:
             own = clip.rectangle if clip.box == 'viewport' else self.own_clip(clip)
@@ -227,8 +227,8 @@ class Crossings:
         entry.index = intersection.index_of(observer, entry)
 
     def own_clip(self, clip):
-        """The rectangle of an element that clips, which may be its border box: from its corner on, as many whole pixels as its place in
-        what it stands in gives it."""
+        """The rectangle of an element that clips, which may be its border box: from its corner, in whole pixels, as rounded at its position
+        in its containing block."""
         layout, node = self.world.layout, clip.thing
         place, holder = layout.flat_place(node), layout.holder(node)
         if isinstance(holder, Element):
@@ -240,7 +240,7 @@ class Crossings:
         return mine if mine != clip.own and self.differs('clips-of-border-boxes') else clip.own
 
     def move_cut(self, observer, entry):
-        """A frame stands at whole pixels; of a root outside it the cut rectangle is moved by what was rounded away."""
+        """Frames are at whole pixels; for a root outside the frame, the intersection rectangle is moved by what the rounding changed."""
         root, document = observer.root, entry.target.document
         if not entry.meets or document.frame is None or (root is not None and getattr(root, 'document', root) is document):
             return
@@ -254,8 +254,8 @@ class Crossings:
             entry.cut = (left + moved[0], top + moved[1], right + moved[0], bottom + moved[1])
 
     def move_edges(self, observer, entry):
-        """As a cut rectangle goes out of a frame its left and top edge are moved out by what is over whole pixels of the frame's place; what
-        is outside the target's box doesn't count in the end."""
+        """When an intersection rectangle is mapped out of a frame, its left and top edges are moved outwards by the fractions of a pixel in
+        the frame's position; in the end, what is outside the target's box doesn't count."""
         layout, cut, box = self.world.layout, list(entry.clips[0].rectangle), entry.clips[0].rectangle
         for clip in entry.clips[1:]:
             left, top, right, bottom = clip.rectangle
@@ -297,7 +297,7 @@ class Crossings:
         self.call(task.document, task.handler)
 
     def notify(self):
-        """Tells all observers that have entries, in the order that the browser's trace has."""
+        """Notifies all observers that have entries, in the order of the browser's trace."""
         documents = self.documents_in_order()
         if self.has('told-by-own-document'):
             for document in documents:
@@ -310,13 +310,13 @@ class Crossings:
                 observer.queue = []
 
     def waits_untold(self, observer):
-        """Whether an observer is in no document's list, as it has no target any more; its entries stay."""
+        """Whether an observer is in no document's list because it has no targets any more; its entries stay."""
         return not observer.registrations and self.has(QUEUES_WAIT) and self.differs('queue-after-unobserve')
 
     def tell_all(self, waiting, also_of_dead_roots=False):
         begun = set()
         while waiting:
-            # A document's observers are told together, also as it ends meanwhile.
+            # A document's observers are notified together, even if it ends in the meantime.
             chosen = next((observer for observer in waiting if observer.document in begun and observer.document.state is not ACTIVE), None)
             chosen = chosen or self.next_of(waiting)
             waiting.remove(chosen)
@@ -327,7 +327,7 @@ class Crossings:
                 begun |= {chosen.document} if stands else set()
 
     def next_of(self, waiting):
-        """The observer that is told next: where the order is any one, by the browser's trace."""
+        """The observer that is notified next: if the order is arbitrary, by the browser's trace."""
         words = self.expected().split()
         if self.round is not None and words[:1] == ['round']:
             words = self.expected(1).split()
@@ -339,7 +339,7 @@ class Crossings:
         return chosen
 
     def tell_entries(self, observer, entries, begun):
-        """`begun` has the documents of which an observer was told before."""
+        """Delivers entries to an observer; `begun` has the documents of which an observer has been notified already."""
         if observer.document.state is not ACTIVE:
             if entries and observer.document not in begun and self.differs('entries-of-dead-document'):
                 observer.queue = entries + observer.queue
@@ -350,13 +350,13 @@ class Crossings:
             self.call(observer.document, observer.handler, entries, lines)
 
     def _now(self, entries):
-        """The tool tells the time of an entry by its clock."""
+        """Sets the time of entries to the clock's, as the tool does."""
         for entry in entries:
             entry.time = self.world.clock
         return entries
 
     def is_told(self, observer, also_of_dead_roots):
-        """Whether an observer with entries is told them, though its root may have gone meanwhile."""
+        """Whether an observer gets its entries, although its root may be gone by then."""
         if self.has('told-by-own-document'):
             return True
         root = observer.root

@@ -1,4 +1,4 @@
-"""The layout as an engine has it, and a world that tells the model what is put in and taken out."""
+"""The layout of an engine, and a world that reports insertions and removals to the model."""
 import collections
 
 from reference.layout import BORDER, CONTENT, DEVICE, FRAME_WIDTH, Layout
@@ -9,31 +9,31 @@ from .traits import EDGES_REACH_OUT, EMPTY_ROOTS_COUNT_NOTHING, ONE_PIXEL_AT_LEA
 
 PIXEL = 64
 ONE = 10000          # a ratio of 100%
-FIRST_FRAME = (300 * PIXEL, 150 * PIXEL)     # a frame that wasn't laid out yet
+FIRST_FRAME = (300 * PIXEL, 150 * PIXEL)     # the size of a frame that hasn't been laid out yet
 
 
 def whole(units):
-    """Rounded to whole pixels, halves up."""
+    """Rounds to whole pixels, halves up."""
     return (units + PIXEL // 2) // PIXEL * PIXEL
 
 
 def whole_border(units, ratio=ONE):
-    """Cut to whole device pixels, and one at least."""
+    """Truncates a border to whole device pixels, but to no less than one."""
     return units and in_units(max(1, units * ratio // (PIXEL * ONE)), ratio)
 
 
 def in_units(pixels, ratio):
-    """Device pixels in units of a length, rounded."""
+    """Converts device pixels to units of a length, rounded."""
     return (pixels * PIXEL * ONE + ratio // 2) // ratio
 
 
 def _pixels(length):
-    """The units of a length, None for a percentage and a keyword."""
+    """The units of a length; None for a percentage or a keyword."""
     return length[1] if isinstance(length, tuple) and length[0] == 'px' else None
 
 
 class Sizes(collections.namedtuple('Sizes', (CONTENT, BORDER, DEVICE, 'corner'))):
-    """What a resize entry tells of a target."""
+    """What a resize entry reports of a target."""
 
     def of(self, box):
         return getattr(self, box)
@@ -43,7 +43,7 @@ NO_SIZES = Sizes((0, 0), (0, 0), (0, 0), (0, 0))
 
 
 class EngineLayout(Layout):
-    """The layout as an engine has it."""
+    """The layout of an engine."""
 
     def __init__(self, world):
         self.differs = world.page.differs
@@ -66,11 +66,11 @@ class EngineLayout(Layout):
         return known
 
     def _by_ratio(self, name):
-        """The class of whole pixels, which are device pixels where a ratio is set."""
+        """The class for rounding to whole pixels, which are device pixels if a ratio is set."""
         return name if self.world.pixel_ratio == ONE else 'lengths-at-a-ratio'
 
     def whole_sizes(self, size):
-        """Both of a viewport, rounded to whole device pixels."""
+        """Both sides of a viewport, rounded to whole device pixels."""
         ratio = self.world.pixel_ratio
         return tuple([in_units((side * ratio + PIXEL * ONE // 2) // (PIXEL * ONE), ratio) for side in size])
 
@@ -83,7 +83,7 @@ class EngineLayout(Layout):
         return snapped if snapped != size and self.differs('device-pixels-by-place') else size
 
     def _device(self, start, side):
-        """How many device pixels lie between the nearest ones of both edges; where a side is not far from none, at least one."""
+        """How many device pixels are between both edges, each rounded to the nearest one; at least one if the side is long enough."""
         ratio = self.world.pixel_ratio
         pixels = ((start + side) * ratio + 320000) // 640000 - (start * ratio + 320000) // 640000
         return 1 if not pixels and side * ratio > 4 * 10000 and self.world.page.has(ONE_PIXEL_AT_LEAST) else pixels
@@ -102,7 +102,7 @@ class EngineLayout(Layout):
         return self.frame_size(document)
 
     def frame_size(self, document):
-        """Of the viewport of a frame that has a box."""
+        """The size of the viewport of a frame that has a box."""
         size = self.size(document.frame, CONTENT)
         rounded = self.whole_sizes(size)
         return rounded if rounded != size and self.differs(self._by_ratio('frame-of-part-pixels')) else size
@@ -117,7 +117,7 @@ class EngineLayout(Layout):
         return fit if fit != width and self.differs('shrink-to-fit') else width
 
     def _fit(self, node, have, around):
-        """As wide as what is in it, as far as there is room between its insets, or behind its place in the flow."""
+        """The shrink-to-fit width: that of the content, within the room between its insets or after its position in the flow."""
         margin, left, right = self.edges(node)[0], self.inset(node, 'left'), self.inset(node, 'right')
         room = have - margin[1] - margin[3] - around - (left or 0) - (right or 0)
         if left is None and right is None:
@@ -126,19 +126,19 @@ class EngineLayout(Layout):
         return max(min(max(least, room), most), 0)
 
     def _flow_corner(self, node):
-        """Where its margin box would begin in the flow, from its containing block's corner."""
+        """The left edge of its margin box if it were in flow, from its containing block's corner."""
         holder = self.holder(node)
         corner = 0 if not isinstance(holder, Element) else self.flat_place(holder)[0] + self.edges(holder)[1][3]
         margin, border, padding = self.edges(node.parent)
         return self.flat_place(node.parent)[0] + border[3] + padding[3] + self.edges(node)[0][3] - corner
 
     def _content_widths(self, node):
-        """The least and the greatest width that its children in flow ask for."""
+        """The minimum and preferred widths of its content, from its in-flow children."""
         asked = [self._asked(child) for child in node.children if self.in_flow(child) and self.has_box(child)]
         return tuple([max([widths[way] for widths in asked] + [0]) for way in (0, 1)])
 
     def _asked(self, node):
-        """What an element adds to those: a percentage counts as `auto`, and as 0 where it is one of an edge."""
+        """What an element contributes to them: a percentage counts as `auto`, or as 0 in margins and paddings."""
         style = node.style
         edges = sum([_pixels(style['%s-%s' % (edge, side)]) or 0 for edge in ('padding', 'border') for side in ('left', 'right')])
         if any(whole_border(style['border-%s' % side][1]) != style['border-%s' % side][1] for side in ('left', 'right')):
@@ -164,10 +164,10 @@ class EngineLayout(Layout):
     def _inner_width(node, width, edges):
         return width if node.style['box-sizing'] == 'content-box' else max(width - edges, 0)
 
-    # --- places -----------------------------------------------------------------------------------------------------------
+    # --- positions --------------------------------------------------------------------------------------------------------
 
     def frame_corner(self, document):
-        """Of a frame's content box, in the viewport that the frame stands in."""
+        """The corner of a frame's content box, in the viewport of the document that the frame is in."""
         _, border, padding = self.edges(document.frame)
         left, top = self.place(document.frame)
         return left + border[3] + padding[3], top + border[0] + padding[0]
@@ -203,7 +203,7 @@ class EngineLayout(Layout):
         return known
 
     def _around_areas(self, document):
-        """The elements that hold a box with an area, with no clip in between: their own boxes count with it."""
+        """The elements on the containing block chain of a box with an area, with no clip in between: their own boxes count too."""
         filled = set()
         for node in self._boxes_of(document):
             holder = self.holder(node) if all(self.border_size(node)) else None
@@ -213,7 +213,7 @@ class EngineLayout(Layout):
         return filled
 
     def _far_corner(self, node, holder):
-        """How far a box makes the range of what it scrolls with."""
+        """How far a box extends the scrollable overflow of what it is scrolled by, or None if it doesn't count."""
         left, top = self.flat_place(node)
         width, height = self.border_size(node)
         right, bottom = left + width, top + height

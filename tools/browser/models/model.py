@@ -1,4 +1,4 @@
-"""The model of an engine: a script's run with the differences put in."""
+"""The model of an engine: a script's run with the engine's differences."""
 from reference import update
 from reference.commands import EFFECTS
 from reference.page import Page
@@ -15,58 +15,58 @@ from .viewports import Viewports
 
 
 class Model(Commands, Viewports, Rounds, Crossings, Page):
-    """Runs a script as an engine does; `told` is the browser's trace."""
+    """Runs a script like an engine; `told` is the browser's trace."""
 
     def __init__(self, script, classes, told=(), order=None):
         self.lines, self.told, self.classes = [], told, classes
-        self.met = set()                  # classes that made something else happen, which may be left out
-        self.noticed = set()              # classes by which an event comes late, or once more, or not at all
+        self.met = set()                  # classes that made the run deviate; they may turn out not to matter
+        self.noticed = set()              # classes because of which an event comes late, once more, or not at all
         self.order = order
-        self.known = {}                   # document -> the viewport that the browser has told it of
+        self.known = {}                   # document -> the viewport's size that the browser has given it
         self.resized = set()              # documents with a `resize` to be fired
-        self.rescaled = False             # whether that of `top` comes of a ratio
-        self.ever_laid = set()            # documents that have been laid out: a frame that comes into one has no size first
+        self.rescaled = False             # whether that of `top` is due to a ratio
+        self.ever_laid = set()            # documents that have been laid out: a frame inserted into one has no size at first
         self.noted = {}                   # document -> the size that the rules noted at the last update
         self.states = {}                  # query list -> its state by the rules
         self.changed_queries = {}         # document -> its query lists with a `change` to be fired
-        self.new_documents = []           # that haven't laid themselves out
-        self.refilled = []                # frames that were put in again: in place of their document they have an empty page
-        self.updates = 0                  # how often intersections were looked at
-        self.came = {}                    # element -> how often that was as it was put in last
-        # element -> the document that it came into last, of those that stood then or in which an update found it
+        self.new_documents = []           # documents that haven't been laid out yet
+        self.refilled = []                # frames that were inserted again: they have an empty page instead of their document
+        self.updates = 0                  # how often intersections have been updated
+        self.came = {}                    # element -> that number when it was last inserted
+        # element -> the document that it was last inserted into, of those that were Active then or in which an update found it
         self.put_in = {}
         self.insertions = {}              # document -> number, in the order in which their frames were inserted
-        self.sizes = {}                   # resize observers' targets -> what they were at the last layout
+        self.sizes = {}                   # resize observers' targets -> their sizes at the last layout
         self.round = None
-        self.placed = {}                  # resize observers' targets -> where they were as the round began
-        self.to_be_made = {}              # document -> those in its frames whose boxes are made anew as it is laid out
+        self.placed = {}                  # resize observers' targets -> their positions as the round began
+        self.to_be_made = {}              # document -> those in its frames whose boxes are created anew when it is laid out
         self.anew = set()                 # documents with a `resize` to be fired for that
-        self.emptied = set()              # those of them that have no size before they are laid out themselves
+        self.emptied = set()              # those of them that have no size until they are laid out themselves
         self.unshown = set()              # documents whose frames had no box at the last layout around them
-        self.touched = set()              # elements that have changed since the last layout; None where all is to be laid out
-        self.laid_places = {}             # boxes out of flow and those in them -> where they were then
-        self.asked = set()                # documents that have asked for a frame callback
-        self.new_scrollers = set()        # elements that became scroll containers since the last layout
-        self.slowed = set()               # those of them that were out of view as something around them was laid out
-        self.ended = set()                # documents that stand no longer
-        self.changed_documents = set()    # that aren't laid out since a change
-        self.broken = set()               # those of them that a box is gone from
-        self.unlaid = set()               # those of them that have more to do than to find styles anew: a box has come or changed
-        self.observed_late = set()        # registrations that were made while the root was away
-        self.found_before = {}            # document -> what its observers find, as it was laid out last, while some are told
-        self.given = {}                   # element -> its fields -> the property by which each was set
-        self.failed = set()               # documents with an error in this update: it comes once
+        self.touched = set()              # elements that have changed since the last layout; contains None if all is to be laid out
+        self.laid_places = {}             # out-of-flow boxes and those in them -> their positions then
+        self.asked = set()                # documents that have requested a frame callback
+        self.new_scrollers = set()        # elements that have become scroll containers since the last layout
+        self.slowed = set()               # documents in `asked` that were out of view when something around them was laid out
+        self.ended = set()                # documents that have ended
+        self.changed_documents = set()    # documents that have changed since they were last laid out
+        self.broken = set()               # those of them that a box was removed from
+        self.unlaid = set()               # those of them that need more than new styles: a box was added or has changed
+        self.observed_late = set()        # registrations created while the root was away
+        self.found_before = {}            # document -> what its observers find by its last layout, while some are being notified
+        self.given = {}                   # element -> its fields -> the property with which each was set
+        self.failed = set()               # documents with a loop error in this update, which is fired only once
         self.all_resize_observers = []
-        self.tool_saw = {}                # resize observer -> target -> the size that the tool saw reported last, or None
-        self.late_scrolls = []            # things that a layout has moved: their events are queued as an update ends
+        self.tool_saw = {}                # resize observer -> target -> the last size reported to the tool, or None
+        self.late_scrolls = []            # things that a layout has scrolled: their events are queued at the end of an update
         self.anchors = Anchors(self)
-        self.hidden = {}                  # documents that are scrolled and not shown -> whether something in them has changed
+        self.hidden = {}                  # scrolled documents that aren't shown -> whether something in them has changed
         super().__init__(script, lambda line, script_line, about: self.lines.append(line))
         self.world = EngineWorld(script.version, self)
         self.began = False
 
     def differs(self, name):
-        """Whether the engine has this class, which the caller has met."""
+        """Whether the engine has this class; the caller has found that it makes a difference here."""
         if name not in self.classes:
             return False
         self.met.add(name)
@@ -76,7 +76,7 @@ class Model(Commands, Viewports, Rounds, Crossings, Page):
         return name in self.classes
 
     def run(self):
-        """The lines of the viewport and of the ratio that begin a script give the page its first size."""
+        """Runs the script; the `viewport` and `ratio` lines at its beginning give the page its initial size."""
         commands = list(self.script.commands)
         while commands and commands[0].name in ('viewport', 'ratio'):
             self.run_outside(commands.pop(0))
@@ -129,7 +129,7 @@ class Model(Commands, Viewports, Rounds, Crossings, Page):
         self.end_round()
 
     def lay_out_pages(self):
-        """New pages in frames lay themselves out, each in a task of its own."""
+        """New pages in frames are laid out, each in a task of its own."""
         for document in self.new_documents + [tree_document(frame) for frame in self.refilled if tree_document(frame) is not None]:
             self.lay_out(document)
         self.new_documents, self.refilled = [], []
@@ -162,7 +162,7 @@ class Model(Commands, Viewports, Rounds, Crossings, Page):
         else:
             for document in documents:
                 self.intersections(document)
-        # What callbacks have changed is laid out as the update is shown.
+        # What callbacks have changed is laid out when the update is painted.
         for document in documents:
             if document.state is ACTIVE:
                 self.places_in(document)

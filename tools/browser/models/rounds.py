@@ -1,14 +1,14 @@
-"""The resize loop as an engine has it, and its rounds as the tool tells them apart."""
+"""The resize loop as an engine implements it, and its rounds as the tool distinguishes them."""
 from reference import trace
 from reference.world import ACTIVE, depth, tree_document
 
 from .traits import SIZES_OF_GATHERING
 
-NEVER = (-1, -1)     # what was reported of a target that wasn't told yet
+NEVER = (-1, -1)     # the last reported size of a target that hasn't been reported yet
 
 
 class Round:
-    """A round as the tool tells it apart from the next: see docs/BROWSERS.md, 'Rounds'."""
+    """A round as the tool distinguishes it from the next: see docs/BROWSERS.md, 'Rounds'."""
 
     def __init__(self, document, waiting):
         self.document, self.waiting = document, waiting
@@ -22,7 +22,7 @@ class ResizeEntry:
 
 
 class Rounds:
-    """A part of Model."""
+    """A mixin of Model."""
 
     def resize_loop(self):
         if self.has('rounds-by-turns'):
@@ -55,7 +55,7 @@ class Rounds:
             self.differs('rounds-by-turns')
 
     def one_round(self, document, least):
-        """Tells what is deeper; answers the least depth, or None where nothing was."""
+        """Delivers what is deeper; returns the least depth, or None if there was nothing."""
         depths = self.gather(document, least)
         if depths:
             told = self.broadcast(document)
@@ -74,7 +74,7 @@ class Rounds:
         return None
 
     def deep(self, node):
-        """The depth as the engine counts it: with the document, where there is one."""
+        """The depth as the engine counts it: including the document, if there is one."""
         if not self.has('depth-with-document'):
             return depth(node)
         if tree_document(node) is not None:
@@ -127,7 +127,7 @@ class Rounds:
         return least
 
     def entries_of(self, observer):
-        """The entries of what is active, with the sizes as the engine has them."""
+        """The entries of active observations, with the sizes that the engine reports."""
         standing = {observation.number for observation in observer.observations.values()}
         entries = []
         for observation in observer.active:
@@ -144,7 +144,7 @@ class Rounds:
         return entries
 
     def resize_told(self, observer, entries):
-        """The tool's callback: it tells rounds apart by what was waiting as the round began."""
+        """The tool's callback, which distinguishes rounds by what was waiting as the round began."""
         place = self.all_resize_observers.index(observer)
         round_ = self.round
         same = (round_ is not None and round_.document is observer.document and place > round_.place
@@ -165,7 +165,7 @@ class Rounds:
         self.call(observer.document, observer.handler, entries, lines)
 
     def tool_gathers(self, document, least):
-        """What waits as a round begins; the tool reads the sizes for it."""
+        """What is waiting as a round begins; the tool reads the sizes to find that out."""
         waiting = set()
         for observer in self.all_resize_observers:
             if observer.document is not document:

@@ -1,45 +1,45 @@
-"""What engines have in another way than the first one that has the class; these are no classes of their own."""
+"""Traits: how an engine's version of a class differs from that of the first engine that has the class. They aren't classes themselves."""
 HIDDEN_READS_NOTHING, DEAD_READS_THROW, SCROLLS_ARE_CUT = 'hidden reads nothing', 'dead reads throw', 'scrolls are cut'
 LATE_SCROLLS, FRAMES_IN_TIME = 'late scrolls', 'frames in time'
 CROSSED_IS_TURNED = 'crossed is turned'
-# Of queued entries: an observer without targets isn't told, and its entries stay.
+# Queued entries: an observer without targets isn't notified, and its entries stay.
 QUEUES_WAIT = 'queues wait'
-# Of query lists of the page's own document: evaluated in an update, as by the rules.
+# Media query lists of the page's own document: evaluated in an update, as in the rules.
 QUERIES_IN_UPDATE = 'queries in the update'
-# Of ranges: an element at the root that has no area, and the margins of one.
+# Scroll ranges: an element at the root without area, and the margins of one.
 EMPTY_ROOTS_COUNT_NOTHING, ROOT_MARGINS_COUNT = 'empty roots count nothing', 'root margins count'
-# Of resize observers: their place is that of their first target.
+# Resize observers: ordered by when they observed their first target.
 FIRST_USE_COUNTS = 'first use counts'
-# Of resize entries: nothing since the gathering counts.
+# Resize entries: changes since the gathering don't count.
 SIZES_OF_GATHERING = 'sizes of the gathering'
-# Of device pixels: a side that would have none; places in a round.
+# Device pixels: a side that would have none; positions in a round.
 ONE_PIXEL_AT_LEAST, PLACED_AS_ROUNDS_BEGIN = 'one pixel at least', 'placed as rounds begin'
-# Of margins: lengths of whole pixels, floored or cut, and percentages of whole pixels; which roots a scroll margin moves.
+# Margins: lengths in whole pixels, floored or truncated, and percentages in whole pixels; which roots a scroll margin expands.
 LENGTHS_ARE_FLOORED, LENGTHS_ARE_CUT, PERCENTAGES_ARE_CUT = 'lengths are floored', 'lengths are cut', 'percentages are cut'
 SCROLLING_ROOT_UNTOLD, IMPLICIT_ROOT, EVERY_ROOT = 'a root that scrolls, untold', 'the implicit root', 'every root'
-# Of scroll anchoring: where the box is gone another one is chosen by the places of the last layout.
+# Scroll anchoring: if the anchor is gone, another one is selected by the positions at the last layout.
 ANCHORS_BEFORE_LAYOUT = 'anchors before layout'
-# Of frames that are put in again: the empty page in one lays out what is around it, as any new page does, before the next commands run.
+# Frames that are inserted again: the empty page in one lays out the documents around it, like any new page, before the next commands run.
 EMPTY_PAGES_LAY_OUT = 'empty pages lay out'
-# Of frames that are put in: what is around one is laid out at once, if it was before.
+# Frames that are inserted: the documents around one are laid out at once, if they have been before.
 FRAMES_LAY_OUT = 'frames lay out'
-# Of roots that stand nowhere: one that has moved to another document is with none.
+# Roots that are in no tree: one that has moved to another document belongs to none.
 ROOTS_GO_AWAY = 'roots go away'
-# Of entries of an observer whose root's document has ended: they are told where it ended as observers of this document were told.
+# Entries of an observer whose root's document has ended: delivered if it ended while observers of this document were being notified.
 DEAD_ROOTS_OF_A_LIST = 'dead roots of a list'
-# Of moved boxes: events that wait go with them, and a document without its root element is at its begin.
+# Moved boxes: pending events are dropped with them, and a document without its root element is scrolled back to its beginning.
 EVENTS_GO_WITH_BOXES = 'events go with boxes'
-# Of query lists: in a frame that wasn't laid out yet they are made by its natural size.
+# Media query lists: in a frame that hasn't been laid out yet they are created with its natural size.
 FRAMES_BEGIN_AS_THEY_COME = 'frames begin as they come'
-# Of what is laid out before an update: documents of frames in it aren't told their sizes.
+# Layout before an update: documents of frames in the one that is laid out don't get their sizes.
 FRAMES_WAIT = 'frames wait'
-# Of frame callbacks: those are called that are there as their step begins.
+# Frame callbacks: those that exist when their step begins are called.
 CALLBACKS_OF_THE_STEP = 'callbacks of the step'
-# Of what tasks have changed: it is laid out before the commands after that tick.
+# What tasks have changed is laid out before the commands after that tick.
 TIMERS_LAY_OUT = 'timers lay out'
-# Of cut rectangles in frames: their left and top edge alone.
+# Intersection rectangles in frames: only their left and top edges.
 EDGES_REACH_OUT = 'edges reach out'
-# Of scrolling to the begin: what is there lays nothing out, unless it is a root element.
+# Scrolling to the beginning: what is already there causes no layout, unless it is a root element.
 BEGIN_IS_THERE = 'begin is there'
-# Of readings: a window, or an element that stands nowhere, has nothing laid out.
+# Reads: reading a window, or an element that is in no tree, causes no layout.
 WINDOWS_READ_AT_ONCE, NOTHING_FOR_DETACHED = 'windows read at once', 'nothing for detached'

@@ -1,4 +1,4 @@
-"""What documents are told of their sizes, what a layout does to offsets, and the first steps of an update."""
+"""The sizes that documents are given, what a layout does to scroll offsets, and the first steps of an update."""
 from reference import intersection, update
 from reference.layout import BORDER, CONTENT, DEVICE
 from reference.media import matches
@@ -8,7 +8,7 @@ from .layout import NO_SIZES, Sizes
 from .traits import (CALLBACKS_OF_THE_STEP, EMPTY_PAGES_LAY_OUT, EVENTS_GO_WITH_BOXES, FRAMES_IN_TIME, FRAMES_LAY_OUT, FRAMES_WAIT,
                      LATE_SCROLLS, PLACED_AS_ROUNDS_BEGIN, QUERIES_IN_UPDATE)
 
-# The window's own view, of which a target is seen or not.
+# An observer of the window itself, for whether a target is visible in it.
 WINDOW = IntersectionObserver('-', None, None, None, None, [('px', 0)] * 4, None, [0])
 
 
@@ -17,7 +17,7 @@ def intersection_size(rectangle):
 
 
 class Viewports:
-    """A part of Model."""
+    """A mixin of Model."""
 
     def inserted(self, node):
         self.changed_documents.add(tree_document(node))
@@ -44,7 +44,7 @@ class Viewports:
             self.lay_out(tree_document(node))
 
     def removed(self, node, where):
-        """Boxes go from a document; they come back with nothing scrolled."""
+        """Boxes are removed from a document; when they come back, nothing is scrolled."""
         self.touched.add(node)
         for inner in preorder(node):
             if where is not None and where.state is not ACTIVE and self.came.get(inner) != self.updates:
@@ -62,12 +62,12 @@ class Viewports:
         self.documents_end()
 
     def forget_scroll(self, thing, where):
-        """The event that waits for what was scrolled goes with its box."""
+        """The pending scroll event is dropped with the box."""
         if where is not None and thing in where.pending_scrolls and self.differs('offset-of-moved-box'):
             where.pending_scrolls.remove(thing)
 
     def uprooted(self, document):
-        """A document without its root element is scrolled no more."""
+        """A document without its root element is no longer scrolled."""
         if self.has(EVENTS_GO_WITH_BOXES) and document.state is ACTIVE:
             self.forget_scroll(document, document)
             if document.scroll != (0, 0) and self.differs('offset-of-moved-box'):
@@ -75,7 +75,7 @@ class Viewports:
                 self.world.scrolled()
 
     def documents_end(self):
-        """Documents that stand no longer; observers with a root in one may lose their targets."""
+        """Notes documents that have ended; observers with a root in one may lose their targets."""
         ended = {document for document in self.world.documents if document.state is DEAD} - self.ended
         self.ended |= ended
         for observer in self.world.intersection_observers:
@@ -84,7 +84,7 @@ class Viewports:
                 observer.registrations.clear()
 
     def documents_in_order(self):
-        """The active documents in the order of the engine."""
+        """The Active documents in the engine's order."""
         by_tree = self.world.active_documents()
         if not self.has('frame-order'):
             return by_tree
@@ -106,7 +106,7 @@ class Viewports:
     # --- layout -------------------------------------------------------------------------------------------------------------
 
     def learns(self, document, size):
-        """A document is told the size of its viewport."""
+        """Gives a document the size of its viewport."""
         old = self.known.get(document)
         if (old or (0, 0)) == size:
             return
@@ -131,7 +131,7 @@ class Viewports:
                         waiting.append(queries)
 
     def lay_out(self, document, also=None):
-        """Lays out a document and those that it stands in, from the outermost on; `also` is one that is told its size besides."""
+        """Lays out a document and those around it, beginning with the outermost; `also` is another one that is given its size."""
         if document.state is not ACTIVE:
             return
         chain = [document]
@@ -144,7 +144,7 @@ class Viewports:
             self.find_again()
 
     def place_all(self):
-        """Remembers where the targets' boxes are, as a round begins."""
+        """Remembers the positions of the targets' boxes as a round begins."""
         if self.has(PLACED_AS_ROUNDS_BEGIN):
             layout = self.world.layout
             targets = {node for observer in self.all_resize_observers for node in observer.observations}
@@ -155,7 +155,7 @@ class Viewports:
             self._laid_out(document)
 
     def _laid_out(self, document, told=None):
-        """`told` are the documents that are told the size of their frames, where it isn't all."""
+        """`told` are the documents that are given the size of their frames, or None for all."""
         layout = self.world.layout
         if document in self.changed_documents and self.has(FRAMES_IN_TIME):
             if document in self.unlaid or document in self.broken:
@@ -189,22 +189,22 @@ class Viewports:
         self.anchors.settle(document)
 
     def places_in(self, document):
-        """Remembers where boxes out of flow are, and those in them."""
+        """Remembers the positions of out-of-flow boxes and of those in them."""
         if self.has('static-place-read'):
             layout = self.world.layout
             self.touched = {node for node in self.touched if node is not None and node.document is not document}
             self.laid_places.update({node: layout.flat_place(node) for node in layout._boxes_of(document) if self.around_out_of_flow(node)})
 
     def around_out_of_flow(self, node):
-        """The box out of flow around an element, or itself, that hangs on the viewport alone, or None."""
+        """The outermost box on an element's containing block chain, the element included, or None if that is the root element."""
         holder, outer = self.world.layout.holder(node), node
         while isinstance(holder, Element):
             holder, outer = self.world.layout.holder(holder), holder
         return outer if outer.root_of is None else None
 
     def laid_inside(self, document):
-        """The documents that are laid out with the one that they stand in: their frames have another size, or a box is gone from them. Where
-        something was set or put in alone, styles are to be found first, which waits."""
+        """The documents that are laid out with the one around them: their frames have another size, or a box was removed from them. If
+        something was only set or inserted, styles have to be computed first, which is postponed."""
         found, layout = set(), self.world.layout
         for inner in self.insertions:
             if inner.state is ACTIVE and inner.frame.document is document:
@@ -213,7 +213,7 @@ class Viewports:
         return found
 
     def see_frame(self, document, is_told):
-        """A document is told the size of its frame, if that has a box as the page around it is laid out."""
+        """Gives a document the size of its frame, if that has a box when the page around it is laid out."""
         if self.world.layout.has_box(document.frame):
             self.unshown.discard(document)
             if is_told:
@@ -222,7 +222,7 @@ class Viewports:
             self.unshown.add(document)
 
     def waits_unshown(self, document):
-        """Whether a document stands still, as its frame or one around it has no box."""
+        """Whether a document waits because its frame, or one around it, has no box."""
         while document.frame is not None:
             if document in self.unshown:
                 return self.differs('hidden-document-waits')
@@ -230,12 +230,12 @@ class Viewports:
         return False
 
     def sized_anew(self, document):
-        """A document has another size, as the box of its frame was made anew: first none, then, as it is laid out itself, its own."""
+        """A document gets a new size, since the box of its frame was created anew: first none, then its own when it is laid out itself."""
         self.resized.add(document)
         self.anew.add(document)
 
     def hide_or_show(self, document):
-        """A scrolled document is told of it, as its frame's box goes and comes."""
+        """A scrolled document gets a scroll event when its frame's box disappears and when it comes back."""
         if document.state is not ACTIVE or not self.has('scroll-of-hidden-frame'):
             return
         shown = self.world.layout.has_box(document.frame)
@@ -267,7 +267,7 @@ class Viewports:
         return Sizes(*[layout.size(node, box) for box in (CONTENT, BORDER, DEVICE)], layout.content_corner(node))
 
     def cut_offsets(self, document):
-        """Stored offsets end at the range, of boxes that scroll."""
+        """Clamps the stored positions of scroll containers to their ranges."""
         layout = self.world.layout
         if document.scroll != (0, 0) and (document.frame is None or layout.has_box(document.frame)):
             self._cut(document, document, layout.document_offset(document))
@@ -285,13 +285,13 @@ class Viewports:
     # --- the first steps of an update --------------------------------------------------------------------------------------
 
     def has_work(self, document):
-        """Whether something waits for this document as an update begins. In the page's own document the tool has a frame callback."""
+        """Whether something is pending in this document as an update begins. The page's own document has a frame callback of the tool."""
         return (document is self.world.top or document in self.resized or document.pending_scrolls or self.changed_queries.get(document)
                 or self.world.frame_callbacks.get(document))
 
     def awake_for_callbacks(self, documents, awake):
-        """The documents whose frame callbacks are run in this update: they had something to do as it began, or callbacks as this step
-        does. In the page's own document the tool has one."""
+        """The documents whose frame callbacks are run in this update: those with something to do as it began, or those with callbacks as
+        this step begins. The page's own document has one of the tool."""
         if not self.has(CALLBACKS_OF_THE_STEP):
             return awake
         return {document for document in documents if document is self.world.top or self.world.frame_callbacks.get(document)}
@@ -304,7 +304,7 @@ class Viewports:
         return document in awake or not self.differs('frame-callback-late')
 
     def view_changes(self):
-        """Which documents that have asked for frame callbacks are out of view, as something around them is laid out or scrolled."""
+        """Notes which documents with requested frame callbacks are out of view when something around them is laid out or scrolled."""
         if not self.has('callback-out-of-view'):
             return
         for document in self.asked:
@@ -314,12 +314,12 @@ class Viewports:
                 self.slowed.discard(document)
 
     def is_out_of_view(self, document):
-        """Whether a document's frame has a box with an area, of which nothing is seen in the window."""
+        """Whether a document's frame has a box with an area, of which nothing is visible in the window."""
         layout = self.world.layout
         if document.frame is None or 0 in layout.viewport(document) or not layout.has_box(document.frame):
             return False
         seen = intersection.find(self.world, WINDOW, intersection.RootRectangle(self.world, WINDOW), document.frame)
-        # What became a scroll container since the last layout doesn't clip yet.
+        # What has become a scroll container since the last layout doesn't clip yet.
         seen.clips = [clip for clip in seen.clips if clip.thing not in self.new_scrollers]
         seen.cut = intersection.NOTHING
         intersection.measure(layout, seen)
@@ -342,7 +342,7 @@ class Viewports:
         return layout.size(document.frame, CONTENT)
 
     def note_resize(self, document, fires):
-        """Which class it is where the rules fire and the engine doesn't, or the other way."""
+        """Notes the class if the rules fire `resize` and the engine doesn't, or the other way round."""
         size = self.rules_viewport(document)
         first, before = document not in self.noted, self.noted.get(document, size)
         changed = before != size

@@ -1,7 +1,7 @@
-"""Random scripts by kind, version of the language and seed; the same give the same bytes.
+"""Random scripts by kind, version of the language and seed, which determine the bytes.
 
-A kind is a set of weights of commands with the scenes that suit it. A script that runs long is no use for comparing, so each
-seed has a row of candidates, of which the first that ends soon is taken.
+A kind consists of weights for the commands, and scenes that suit it. Scripts that run long are of no use for comparison, so
+each seed has a sequence of candidates, of which the first that ends soon is taken.
 """
 import random
 
@@ -14,8 +14,8 @@ SIZE = 40
 
 
 class Kind:
-    """Weights of commands and scenes, and what is made of a script: `words` of the command line are random where the kind
-    asks for more than a trace."""
+    """A description, weights of commands, scenes, random arguments (`words`) if the kind isn't compared by its trace, and a
+    function that makes a text of a script (`make`)."""
 
     def __init__(self, said, weights, liked=(), words=None, make=None):
         self.said, self.weights, self.liked, self.words, self.make = said, weights, liked, words, make
@@ -45,7 +45,7 @@ KINDS = {
     'trees': Kind('moves in the tree, and documents that begin and end',
                   {'append': 10, 'before': 6, 'remove': 5, 'read': 3, 'set': 3, 'frame': 4},
                   (scenes.documents_that_die, scenes.documents_that_begin, scenes.depths_that_fall)),
-    'frames': Kind('frames in frames', {'frame': 6, 'append': 8, 'remove': 4, 'viewport': 3, 'listen': 3, 'media': 3,
+    'frames': Kind('nested frames', {'frame': 6, 'append': 8, 'remove': 4, 'viewport': 3, 'listen': 3, 'media': 3,
                                         'read': 3},
                    (scenes.frames_in_frames, scenes.documents_that_die, scenes.documents_that_begin)),
     'events': Kind('listeners, timers, frame callbacks, tasks and query lists',
@@ -61,13 +61,13 @@ KINDS = {
                                         'append': 3, 'remove': 2},
                       (scenes.queues_between, scenes.frames_in_frames, scenes.margins_of_scrolling)),
     'mixed': Kind('all of these', _MIXED),
-    'deep': Kind('chains of elements up to the limit of depth',
+    'deep': Kind('chains of elements up to the depth limit',
                  {'append': 6, 'before': 3, 'read': 4, 'set': 4, 'ro-observe': 4}),
-    'texts': Kind('texts that are nearly scripts', _MIXED, make=_nearly),
+    'texts': Kind('texts that are almost scripts', _MIXED, make=_nearly),
     'checks': Kind('the same, with --check', _MIXED, words=lambda chance: ['--check'], make=_nearly),
     'summaries': Kind('mixed scripts with --summary', _MIXED, words=lambda chance: ['--summary']),
 }
-KINDS['lints'] = Kind('scripts of loops with --lint', KINDS['loops'].weights, KINDS['loops'].liked,
+KINDS['lints'] = Kind('scripts with resize loops, with --lint', KINDS['loops'].weights, KINDS['loops'].liked,
                       words=lambda chance: ['--lint'])
 KINDS['judgements'] = Kind('mixed scripts and their traces with --judge', _MIXED, words=lambda chance: ['--judge'])
 KINDS['inspections'] = Kind('mixed scripts with --inspect', _MIXED, words=_inspected)
@@ -82,8 +82,8 @@ _SCENES = (scenes.sizes, scenes.keys_that_come_back, scenes.documents_that_die, 
 
 
 def candidates(kind, seed, version, trace_of, without=()):
-    """(words, bytes) of one seed after another; `trace_of` gives a script's trace, or None where it runs too long. Where these
-    properties are positions and insets, there are none. Of a stream of version 2 some pages are of version 1."""
+    """Yields (arguments, bytes) of the candidates of a seed; `trace_of` gives a script's trace, or None if it runs too long. If
+    `without` contains positions or insets, none are used. Some pages of a stream of version 2 are of version 1."""
     positions = version == 2 and not set(styles.POSITIONED) & set(without)
     for attempt in range(ATTEMPTS):
         chance = random.Random('%s/%s/%d/%d' % (kind, seed, version, attempt))
@@ -104,7 +104,7 @@ def candidates(kind, seed, version, trace_of, without=()):
 
 
 def _page(chance, kind, version, positions):
-    """One script of a source that holds more, once in a while nearly one."""
+    """A script for a source that contains more than it; sometimes a text that is almost a script."""
     lines = _lines(chance, kind, version, positions and version == 2, size=SIZE // 2)
     return faults.nearly_a_script(chance, lines) if chance.random() < 0.08 else _text(lines)
 
@@ -157,7 +157,7 @@ def _first_tree(build, chain):
 
 
 def _planned_scenes(build, kind):
-    """None, or some, of which those that suit the kind are the most."""
+    """No scenes, or some, most of which suit the kind."""
     if build.happens(0.3):
         return []
     lacking = () if build.positions else _POSITIONS if build.version == 2 else _OF_VERSION_2
@@ -166,7 +166,7 @@ def _planned_scenes(build, kind):
 
 
 def _with_handlers(build, kind):
-    """The lines with the handlers put before, between or behind what stands outside of them."""
+    """The lines, with the handlers before, between or after the commands outside them."""
     items = _whole_items(build.lines)
     for number, name in enumerate(build.handlers):
         build.lines = ['handler ' + name]
@@ -182,7 +182,7 @@ def _with_handlers(build, kind):
 
 
 def _whole_items(lines):
-    """The lines, those of a block kept together."""
+    """Groups of lines, those of a block kept together."""
     items, open_ = [], 0
     for line in lines:
         if open_:

@@ -1,4 +1,4 @@
-"""Builds a random script command by command: a first tree, then commands by the weights of a kind, in handlers too."""
+"""Builds a random script command by command: an initial tree, then commands by the weights of a kind, in handlers too."""
 from .. import grammar
 from ..forms import EVENTS
 from .choices import Choices
@@ -7,8 +7,8 @@ KEYS = ['k0', 'k1', 'k2', 'k3']
 
 
 class Builder(Choices):
-    """`weights` are those of the kind's commands; a command that it doesn't name has weight 1. `positions` says whether there are
-    positions and insets."""
+    """`weights` are those of the kind's commands; any other command has weight 1. `positions` says whether positions and insets
+    are used."""
 
     def __init__(self, chance, version, positions, weights, size):
         Choices.__init__(self, chance, version, positions)
@@ -52,7 +52,7 @@ class Builder(Choices):
         return '%s%d' % (letter, self.made)
 
     def new(self, letter):
-        """A name that is new, or once in a while one that is taken."""
+        """A new name, or sometimes one that is taken."""
         name = self.fresh(letter)
         return self.chance.choice(self.blocks) if self.happens(0.01) and self.blocks else name
 
@@ -94,7 +94,7 @@ class Builder(Choices):
         return self.handler() if self.happens(0.7) else '-'
 
     def listened(self, own):
-        """(what is listened to, an event that mostly suits it)."""
+        """(event target, an event that usually suits it)."""
         if self.happens(0.35):
             listened = '@' + self.chance.choice(self.documents)
         elif self.happens(0.3):
@@ -110,7 +110,7 @@ class Builder(Choices):
     # --- elements -----------------------------------------------------------------------------------------------------------
 
     def make(self, kind, attached=True, parent=None, inside=False):
-        """An element of this kind, mostly with some style, put below a parent; what a handler makes isn't counted on."""
+        """An element of this kind, usually with some style, inserted into a parent; those created in handlers aren't used later."""
         parent = parent or self.block()
         document = self.document_of.get(parent, 'top') if self.happens(0.9) else self.document()
         name = self.new(kind[0])
@@ -150,7 +150,7 @@ class Builder(Choices):
                 self.sized.append(name)
 
     def fill(self, document, inside=False):
-        """A root element in a frame's document, and some blocks in it."""
+        """A root element for a frame's document, with some blocks in it."""
         name = self.new('b')
         if name in self.document_of:
             return
@@ -167,7 +167,7 @@ class Builder(Choices):
             self.make('block', parent=name)
 
     def make_scroller(self):
-        """A block with more in it than it shows."""
+        """A block with overflowing content."""
         name = self.make('block', attached=self.happens(0.95))
         if name not in self.document_of:
             return
@@ -183,7 +183,7 @@ class Builder(Choices):
                 self.line('set %s width %s' % (inner, self.one_of('150%', '1000px', '2000px')))
 
     def make_chain(self):
-        """Blocks in one another, up to the limit of depth."""
+        """Nested blocks, up to the depth limit."""
         at = 'r'
         for _ in range(self.one_of(20, 100, 250, 256, 258)):
             name = self.new('b')
@@ -196,7 +196,7 @@ class Builder(Choices):
     # --- commands: each writes the lines of one -------------------------------------------------------------------------------
 
     def command(self, name, inside=None, own=None, level=0):
-        """`inside` is the number of the handler that it stands in, `own` is `$target` where that is to be preferred."""
+        """`inside` is the number of the handler that it is in; `own` is `$target` if that is to be preferred."""
         observers = {'ro-': self.resize_observers, 'io-': self.intersection_observers}.get(name[:3], True)
         if not observers and self.happens(0.97):          # nothing to name yet
             if inside is not None:
@@ -354,7 +354,7 @@ class Builder(Choices):
         self.line('clear-timer %s %s' % (self.document(), self.chance.choice(KEYS)))
 
     def write_post(self, inside):
-        """In a handler only later ones are posted, so that no chain is endless."""
+        """In a handler, only later handlers are posted, so that no chain is endless."""
         handlers = self.handlers if inside is None else self.handlers[inside + 1:]
         if handlers:
             self.line('post %s %s' % (self.document(), self.chance.choice(handlers)))

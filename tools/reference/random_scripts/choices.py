@@ -1,4 +1,4 @@
-"""Small random choices: lengths, percentages, margins, thresholds and queries, the odd ones among them."""
+"""Small random choices: lengths, percentages, margins, thresholds and queries, including unusual ones."""
 from ..styles import SIDES
 
 QUERIES = [

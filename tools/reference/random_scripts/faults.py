@@ -1,4 +1,4 @@
-"""Texts that are nearly scripts: a script with a small fault or some, or with none."""
+"""Texts that are almost scripts: a script with no, one or several small faults."""
 from .choices import QUERIES
 
 _WORDS = [
@@ -49,7 +49,7 @@ _LINES = [
 
 
 def _in_words(chance, lines, at):
-    """One word left out, doubled, exchanged or put in."""
+    """One word removed, doubled, replaced or inserted."""
     words = lines[at].split(b' ')
     place = chance.randrange(len(words))
     how = chance.randrange(5)
@@ -65,7 +65,7 @@ def _in_words(chance, lines, at):
 
 
 def _in_bytes(chance, lines, at):
-    """One byte left out, exchanged or put in."""
+    """One byte removed, replaced or inserted."""
     line = lines[at]
     place = chance.randrange(len(line) + 1)
     how = chance.randrange(4)
@@ -81,7 +81,7 @@ def _in_bytes(chance, lines, at):
 
 
 def _in_lines(chance, lines, at):
-    """One line left out, doubled, or one of structure put in."""
+    """One line removed or doubled, or a structural one inserted."""
     how = chance.randrange(4)
     if how == 0:
         del lines[at]
@@ -105,7 +105,7 @@ def _in_the_first_line(chance, lines, at):
 
 
 def _in_length(chance, lines, at):
-    """A line of about as many bytes as a line may have."""
+    """A line with about as many bytes as a line may have."""
     fill = chance.choice([b' ', b'\t', b'#', b'x'])
     line = lines[at] + b' '
     line += fill * max(0, chance.choice([4090, 4095, 4096, 4097, 4100]) - len(line))
@@ -128,7 +128,7 @@ def _in_nesting(chance, lines, at):
 
 
 def _in_space(chance, lines, at):
-    """Space and comments, which are no fault."""
+    """White space and comments, which aren't faults."""
     space = chance.choice([b'  ', b'\t', b' \t '])
     lines[at] = chance.choice([b'\t', b'  ', b'']) + lines[at].replace(b' ', space) + chance.choice(
         [b'', b' ', b'\t', b' # note', b' #', b'#'])
@@ -143,7 +143,7 @@ _FAULTS = [_in_words] * 7 + [_in_bytes] * 8 + [_in_lines] * 4 + [_in_a_query] * 
 
 
 def nearly_a_script(chance, lines):
-    """The bytes of a script's lines with no fault or some, maybe cut off or with other line ends."""
+    """The bytes of a script's lines with or without faults, maybe truncated or with other line endings."""
     lines = [line.encode() for line in lines]
     if chance.random() < 0.5:
         lines = lines[:chance.randrange(1, len(lines) + 1)]

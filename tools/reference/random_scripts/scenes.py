@@ -1,8 +1,8 @@
-"""Scenes: small set pieces around one interaction that commands by themselves seldom meet. Each adds its lines to a builder."""
+"""Scenes: short sequences around an interaction that random commands rarely produce. Each adds its lines to a builder."""
 
 
 def _put(build, name, document='top', parent=None, *styles):
-    """A block with these styles, below a parent or as a document's root element."""
+    """A block with these styles, as a child of a parent or as a document's root element."""
     build.line('block %s %s' % (name, document))
     for style in styles:
         build.line('set %s %s' % (name, style))
@@ -14,7 +14,7 @@ def _put(build, name, document='top', parent=None, *styles):
 
 
 def _handler(build, *lines):
-    """A new handler of these lines; ` / ` parts several lines in one text, and empty texts are left out."""
+    """A new handler with these lines; ` / ` separates lines within a text, and empty texts are left out."""
     name = build.fresh('z')
     body = [line for text in lines if text for line in text.split(' / ')]
     build.scene_handlers.append(['handler ' + name] + body + ['end'])
@@ -22,12 +22,12 @@ def _handler(build, *lines):
 
 
 def _several(build, least, most, act):
-    """The lines of some random acts."""
+    """The lines of some random actions."""
     return [line for _ in range(build.chance.randrange(least, most + 1)) for line in act().split(' / ')]
 
 
 def _frame(build, parent='r', document='top', height=None):
-    """A frame with a root element in its document: their names (frame, document, root element)."""
+    """A frame with a root element in its document; returns their names (frame, document, root element)."""
     frame, root = build.fresh('f'), build.fresh('b')
     inner = 'd' + frame[1:]
     build.line('frame %s %s %s' % (frame, document, inner))
@@ -51,7 +51,7 @@ def _observe(build, observer, nodes, most=3):
 
 
 def sizes(build):
-    """Sizes by box-sizing, minimum, maximum, percentages and edges."""
+    """Sizes that depend on box-sizing, minimum, maximum, percentages and edges."""
     outer, middle, inner, image = build.fresh('b'), build.fresh('b'), build.fresh('b'), build.fresh('i')
     _put(build, outer, 'top', 'r', 'width 300px', 'height 200px')
     _put(build, middle, 'top', outer)
@@ -79,7 +79,7 @@ def _size_style(build):
 
 
 def depths_that_fall(build):
-    """An earlier observer's callback moves a later one's target, so that a round is no deeper than the one before."""
+    """An earlier observer's callback moves a later one's target, so that a round isn't deeper than the one before."""
     grown, moved, home, deep = [build.fresh('b') for _ in range(4)]
     _put(build, grown, 'top', 'r', 'height 10px')
     _put(build, home, 'top', 'r')
@@ -106,7 +106,7 @@ def depths_that_fall(build):
 
 
 def observers_of_one_another(build):
-    """Callbacks that observe, unobserve and disconnect one another's targets."""
+    """Callbacks that observe, unobserve and disconnect each other's targets."""
     nodes, observers = [build.fresh('b') for _ in range(3)], [build.fresh('o') for _ in range(3)]
     parent = 'r'
     for node in nodes:
@@ -160,7 +160,7 @@ def documents_that_die(build):
 
 
 def _call_in(build, part, handler, document, nodes, queries, key):
-    """Has a handler called in one part of the next update."""
+    """Makes one part of the next update call a handler."""
     if part == 'resize':
         build.line('listen @%s resize %s' % (document, handler))
     elif part == 'scroll':
@@ -188,7 +188,7 @@ def _call_in(build, part, handler, document, nodes, queries, key):
 
 
 def _after_a_death(build, frame, document, root, queries, handler):
-    """What is left of a document that may have ended, and of one whose frame comes back."""
+    """What remains of a document that may have ended, and of one whose frame is inserted again."""
     build.clock += 5
     build.write_tick()
     if build.happens(0.3):
@@ -202,7 +202,7 @@ def _after_a_death(build, frame, document, root, queries, handler):
 
 
 def documents_that_begin(build):
-    """Documents that become Active, with what waits in them, within an update or before."""
+    """Documents that become Active with things pending in them, during an update or before it."""
     frames = [build.fresh('f'), build.fresh('f')]
     documents = ['d' + frame[1:] for frame in frames]
     root, inner, target = build.fresh('b'), build.fresh('b'), build.fresh('b')
@@ -285,7 +285,7 @@ def _make_watches(build, watches, targets, act, places):
 
 
 def keys_that_come_back(build):
-    """Timers, frame callbacks, tasks and listeners that clear and renew one another."""
+    """Timers, frame callbacks, tasks and listeners that clear and renew each other."""
     other, handlers = _handler(build, 'say other'), []
 
     def act():
@@ -326,7 +326,7 @@ def _queries_that_make_queries(build, other, handler):
 
 
 def scrolls_that_wait(build):
-    """Scrolls that wait for their events while their targets move or stop to scroll."""
+    """Pending scroll events whose targets move or cease to be scroll containers."""
     frame, document, root = _frame(build, height='700px')
     build.make_scroller()
     box, inner = build.fresh('b'), build.fresh('b')
@@ -357,7 +357,7 @@ def scrolls_that_wait(build):
 
 
 def _stored_and_in_force(build, box, inner, parent):
-    """The range shrinks below a stored offset and grows again."""
+    """The scroll range shrinks below a stored position and grows again."""
     build.line('append %s %s' % (parent, box), 'set %s overflow auto' % box, 'set %s height 900px' % inner,
                'scroll %s 0px 800px' % box, 'set %s height %s' % (inner, build.one_of('80px', '100px', '61px')))
     for _ in range(build.chance.randrange(1, 4)):
@@ -368,7 +368,7 @@ def _stored_and_in_force(build, box, inner, parent):
 
 
 def frames_in_frames(build):
-    """Frames in frames, moved and measured in percentages."""
+    """Nested frames, moved and with sizes in percentages."""
     nested = [_frame(build, height='80%')]
     nested.append(_frame(build, nested[0][2], nested[0][1], height='50%'))
     nested.append(_frame(build, nested[1][2], nested[1][1]))
@@ -401,7 +401,7 @@ def frames_in_frames(build):
 
 
 def device_pixels(build):
-    """Boxes that are observed in device pixels, at ratios of which some round to the same numbers; of version 2."""
+    """Boxes observed in device pixels, at ratios of which some round to the same numbers; version 2."""
     nodes = [build.fresh('b') for _ in range(3)]
     for node in nodes:
         _put(build, node, 'top', 'r', 'width ' + build.one_of('0.5px', '10.5px', '33.33px', '100px'),
@@ -419,7 +419,7 @@ def device_pixels(build):
 
 
 def margins_of_scrolling(build):
-    """Targets behind the edges of scroll containers and of boxes that clip alone, for observers with scroll margins; of version 2."""
+    """Targets beyond the edges of scroll containers and of boxes that only clip, for observers with scroll margins; version 2."""
     outer, middle, inner = [build.fresh('b') for _ in range(3)]
     _put(build, outer, 'top', 'r', 'height 100px', 'width 200px', 'overflow ' + build.one_of('hidden', 'scroll', 'auto'),
          'padding ' + build.one_of('0px', '10px'), 'border ' + build.one_of('0px', '3px'))
@@ -447,7 +447,7 @@ def margins_of_scrolling(build):
 
 
 def positions(build):
-    """Holders, insets and scroll containers; of version 2."""
+    """Containing blocks, insets and scroll containers; version 2."""
     outer, middle, inner = [build.fresh('b') for _ in range(3)]
     _put(build, outer, 'top', 'r', 'height 200px', 'overflow ' + build.one_of('visible', 'hidden', 'auto', 'clip'),
          'border ' + build.one_of('0px', '3px', '8px'))

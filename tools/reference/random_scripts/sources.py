@@ -1,4 +1,4 @@
-"""Sources that hold more than one script: streams of pages, and recorded traces to be judged."""
+"""Sources that contain more than one script: streams of pages, and scripts with recorded traces."""
 
 _NUMBERS = [b'0', b'1', b'01', b'-0', b'0.5', b'0.015625', b'0.01', b'0.50', b'yes', b'no', b'top', b'true',
             b'340282366920938463463374607431768211456', b'18446744073709551616', b'4294967296', b'1125899906842624',
@@ -6,7 +6,7 @@ _NUMBERS = [b'0', b'1', b'01', b'-0', b'0.5', b'0.015625', b'0.01', b'0.50', b'y
 
 
 def stream(chance, scripts):
-    """These scripts as pages, their lines mixed in runs; two may have the same name."""
+    """These scripts as pages, interleaved in runs of lines; two may have the same name."""
     pages = [('p%d' % number if chance.random() < 0.97 else 'p0', script.split(b'\n')[:-1])
              for number, script in enumerate(scripts)]
     lines = [chance.choice([b'', b'# no page', b'tick 0', b'page 5', b' page a'])] if chance.random() < 0.03 else []
@@ -39,7 +39,7 @@ def _changed_line(chance, lines):
 
 
 def _changed_order(chance, lines):
-    """One line less, one twice, or two that stand beside one another exchanged."""
+    """One line removed or doubled, or two adjacent lines swapped."""
     at, how = chance.randrange(len(lines)), chance.randrange(3)
     if how == 0:
         del lines[at]
@@ -50,13 +50,13 @@ def _changed_order(chance, lines):
 
 
 def _changed_bytes(chance, text):
-    """Another byte, one less or more, or an end that is cut off."""
+    """One byte changed, removed or added, or the end cut off."""
     at, how, byte = chance.randrange(len(text)), chance.randrange(4), bytes([chance.randrange(256)])
     return text[:at] + (byte + text[at + 1:], text[at + 1:], byte + text[at:], b'')[how]
 
 
 def recorded(chance, script, trace):
-    """A script, a line `trace` and its trace, mostly with a small change; `trace` are lines without their line feeds."""
+    """A script, a line `trace` and its trace, usually with a small change; `trace` is a list of lines without line feeds."""
     lines = [line.encode() + b'\n' for line in trace]
     how = chance.randrange(10)
     if how == 1 and lines:
