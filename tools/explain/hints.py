@@ -35,6 +35,8 @@ def wrong_with(word, form):
         return did_you_mean(near) if near else None
     if form.shown == 'LENGTH' or form.shown == 'SIGNED':
         return _wrong_with_length(word, form)
+    if form.shown == 'PERCENT':
+        return _wrong_with_percentage(word)
     if form.shown in ('WHOLE', 'NUMBER'):
         return _wrong_with_number(word, form)
     if form.shown in ('NAME', 'DOC', 'NODE', 'HANDLER', 'KEY', 'TARGET'):
@@ -47,11 +49,34 @@ def wrong_with_value(word, form):
     near = close(word, form.keywords)
     if near:
         return did_you_mean(near)
-    if 'LENGTH' not in form.said:
+    is_signed = 'SIGNED' in form.said
+    if not is_signed and 'LENGTH' not in form.said:
         return None
-    if word.endswith('%') and 'PERCENT' not in form.said:
+    if not word.endswith('%'):
+        return _wrong_with_length(word, forms.SIGNED if is_signed else forms.LENGTH)
+    if 'PERCENT' not in form.said:
         return 'A percentage is not allowed here.'
-    return _wrong_with_length(word, forms.LENGTH)
+    return _wrong_with_percentage(word, is_signed)
+
+
+def _wrong_with_decimal(word, unit):
+    """A sentence on the digits around the point of a number with this unit, or None."""
+    if re.fullmatch(r'-?\.[0-9]+' + unit, word):
+        return 'A digit is required before the point: `%s`.' % word.replace('.', '0.')
+    if re.fullmatch(r'-?[0-9]+\.' + unit, word):
+        return 'A digit is required after the point: `%s`.' % word.replace('.', '.0')
+    if re.fullmatch(r'-?[0-9]+\.[0-9]{3,}' + unit, word):
+        return 'At most two digits are allowed after the point.'
+    return None
+
+
+def _wrong_with_percentage(word, is_signed=False):
+    if re.fullmatch(r'-[0-9.]+%', word) and not is_signed:
+        return "A percentage can't be negative here."
+    wrong = _wrong_with_decimal(word, '%')
+    if wrong is None and re.fullmatch(r'-?[0-9]+(\.[0-9]+)?%', word):
+        return 'The greatest percentage is 10000%, with up to 7 digits.'
+    return wrong
 
 
 def _wrong_with_length(word, form):
@@ -59,10 +84,9 @@ def _wrong_with_length(word, form):
         return 'The unit is missing: `%spx`.' % word
     if re.fullmatch(r'-.*px', word) and form is forms.LENGTH:
         return "A length can't be negative here."
-    if re.fullmatch(r'-?\.[0-9]+px', word):
-        return 'A digit is required before the point: `%s`.' % word.replace('.', '0.')
-    if re.fullmatch(r'-?[0-9]+\.[0-9]{3,}px', word):
-        return 'At most two digits are allowed after the point.'
+    wrong = _wrong_with_decimal(word, 'px')
+    if wrong is not None:
+        return wrong
     if re.fullmatch(r'-?[0-9]+(\.[0-9]*)?(px|PX|Px)', word):
         if not word.endswith('px'):
             return 'The unit is written `px`.'
