@@ -94,7 +94,7 @@ fn perform_on_number<K: Sink, L: Ledger>(
 ///   many were consumed.
 /// - With `--pages` and one of these statuses, each page's lines in the output are the trace of its script alone, unless the
 ///   stream is rejected.
-/// - `ReadFault` and `WriteFault`: only if that fault count rose in this call.
+/// - `ReadFault` and `WriteFault`: only if that fault count rose in this call; with any other status that count is unchanged.
 /// - `Usage`: exactly for any other words; nothing is read, written or allocated.
 pub fn run<S: Source, K: Sink, L: Ledger>(
     alloc: Global,

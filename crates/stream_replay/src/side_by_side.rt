@@ -305,7 +305,7 @@ fn run_bytes<K: Sink, L: Ledger>(
 /// - `Done`, `Syntax` and `Limit`: exactly as the reply to the source's bytes says, and all of its text was written. The
 ///   source is at its end then; of more than 16,777,216 bytes one more than that many were consumed. `Usage` doesn't occur.
 /// - `ReadFault` and `WriteFault`: only if that fault count rose in this call; nothing was written, or a prefix of the text,
-///   respectively. `NoMemory` if an allocation fails, after a prefix of the text.
+///   respectively. With any other status that count is unchanged. `NoMemory` if an allocation fails, after a prefix of the text.
 pub fn run_pages<S: Source, K: Sink, L: Ledger>(
     alloc: Global,
     source: &mut S,
