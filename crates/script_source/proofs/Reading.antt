@@ -1,14 +1,11 @@
 -- What was read of a source, piece by piece, up to a limit.
-use Rattle.std.proofs.Common.{◌≡◌, ◌≤◌, ◌∙◌, ◌++◌, ◌-◌, ap, refl, sym, subst, arith, ℕ, List, [], length, take, drop}
+use Rattle.std.proofs.Common.{◌≡◌, ◌≤◌, ◌∙◌, ◌++◌, ◌-◌, ap, sym, subst, arith, ℕ, List, [], length, take, drop}
 use Rattle.std.proofs.lemmas.List.{append-nil, take_all, take_min, drop_all, take_at, drop_at}
 use Rattle.std.proofs.Math.Nat.{min_comm}
 use Rattle.std.proofs.Math.Seq.{take-append-add}
 use Rattle.std.proofs.KnownBytes.{Consumes-trans}
 use Rattle.std.specs.Io.KnownBytes.{Consumes, IsAtEnd}
 use Rattle.std.specs.Prelude.{Option, None, Some, min}
-use Rattle.text_io.specs.Streams.{IsCauseOfReading}
-use Rattle.text_io.specs.declared.streams.TextFault.{TextFault}
-use Rattle.text_io.specs.declared.streams.TextFault.TheVariants.{ReadFault, WriteFault, TooLong, Memory}
 use Rattle.script_source.specs.Sources.{ReadTo}
 
 -- a further piece of what a source gives
@@ -39,10 +36,3 @@ fed_within limit text piece fits =
     ap (λ bytes. text ++ bytes) (ap (λ n. take n piece) (min_comm (length piece) (limit - length text)) ∙ take_min (limit - length text) piece)
     ∙ sym (take-append-add text piece (limit - length text))
     ∙ ap (λ n. take n (text ++ piece)) (omega (arith, fits))
-
--- why reading a text failed: without a `ReadFault` no read did
-pub cause_unfailed : (fault : TextFault) (left after : Option (List ℕ)) (limit f g : ℕ) → IsCauseOfReading fault left after limit f g → (fault ≡ ReadFault → ⊥) → g ≡ f
-cause_unfailed ReadFault left after limit f g cause other = absurd (other refl)
-cause_unfailed WriteFault left after limit f g cause other = absurd cause
-cause_unfailed (TooLong feeds) left after limit f g cause other = cause.1
-cause_unfailed Memory left after limit f g cause other = cause
