@@ -5,13 +5,14 @@ use Rattle.script_model.specs.Reading.{Reading, reading}
 use Rattle.page_model.specs.Outcome.{outcome_read}
 use Rattle.page_model.specs.World.{World}
 use Rattle.run_replies.specs.Answers.{Ends, IsTaken, Tells}
-use Rattle.script_source.specs.Sources.{ReadTo}
+use Rattle.script_source.specs.Sources.{IsUnread, ReadTo}
 use Rattle.script_replay.specs.ScriptReplies.{read_reply}
 use Rattle.run_replies.specs.Words.{looked_at}
 use Rattle.run_replies.specs.declared.words.Job.{Job}
 use Rattle.run_replies.specs.declared.words.Words.{Words}
 use Rattle.run_replies.specs.declared.words.Words.TheVariants.{Generated}
 use Rattle.run_replies.specs.declared.status.Status.{Status}
+use Rattle.run_replies.specs.declared.status.Status.TheVariants.{NoMemory, ReadFault}
 use Rattle.run_replies.proofs.Endings.{tells_end}
 use Rattle.run_replies.proofs.Taking.{first_bytes_read, taken}
 
@@ -35,6 +36,11 @@ reads_world world (Some it) None rest bytes read is = tt
 reads_world world (Some it) (Some text) rest bytes read is = is ∙ ap (λ (it : Reading). (outcome_read it).world) (ap reading read.0 ∙ first_bytes_read text)
 
 -- where it can't be read
+
+pub unread_unfailed : (status : Status) (f g : ℕ) → IsUnread status f g → (status ≡ ReadFault → ⊥) → g ≡ f
+unread_unfailed ReadFault f g cause other = absurd (other refl)
+unread_unfailed NoMemory f g cause other = cause
+unread_unfailed status f g cause other = absurd cause
 
 -- where none is asked for
 

@@ -37,6 +37,8 @@ fn perform_on_source<S: Source, K: Sink, L: Ledger>(
     ensures read { IfSome (S.left source.old) (λ text. IsTaken result.status 16777217 text (S.left source.new)) }
     ensures read_fault { result.status ≡ Status.ReadFault → Rose (S.faults source.old) (S.faults source.new) × (sink.new ≡ sink.old) }
     ensures write_fault { result.status ≡ Status.WriteFault → Rose (K.faults sink.old) (K.faults sink.new) }
+    ensures unfailed_read { (result.status ≡ Status.ReadFault → ⊥) → S.faults source.new ≡ S.faults source.old }
+    ensures unfailed_write { (result.status ≡ Status.WriteFault → ⊥) → K.faults sink.new ≡ K.faults sink.old }
     ensures page { is_some result.page ≡ (is_run job && is_done result.status) }
     ensures world { IfSome result.page (λ page. IfSome (S.left source.old) (λ text. page.world ≡ (outcome_read (reading text)).world)) }
 {
@@ -92,7 +94,7 @@ fn perform_on_number<K: Sink, L: Ledger>(
 ///   many were consumed.
 /// - With `--pages` and one of these statuses, each page's lines in the output are the trace of its script alone, unless the
 ///   stream is rejected.
-/// - `ReadFault` and `WriteFault`: only if that fault count rose in this call.
+/// - `ReadFault` and `WriteFault`: only if that fault count rose in this call; with any other status that count is unchanged.
 /// - `Usage`: exactly for any other words; nothing is read, written or allocated.
 pub fn run<S: Source, K: Sink, L: Ledger>(
     alloc: Global,
@@ -113,6 +115,8 @@ pub fn run<S: Source, K: Sink, L: Ledger>(
     // The causes, even if neither tells its bytes.
     ensures read_fault { result.status ≡ Status.ReadFault → Rose (S.faults source.old) (S.faults source.new) × (sink.new ≡ sink.old) }
     ensures write_fault { result.status ≡ Status.WriteFault → Rose (K.faults sink.old) (K.faults sink.new) }
+    ensures unfailed_read { (result.status ≡ Status.ReadFault → ⊥) → S.faults source.new ≡ S.faults source.old }
+    ensures unfailed_write { (result.status ≡ Status.WriteFault → ⊥) → K.faults sink.new ≡ K.faults sink.old }
     ensures page { is_some result.page ≡ (has_page (asked (map string_bytes words.now)) && is_done result.status) }
     ensures world { IfSome result.page (λ page. IfSome (asked (map string_bytes words.now)) (λ asks. IfSome (seen asks (S.left source.old)) (λ text.
         page.world ≡ (outcome_read (reading (script_text asks text))).world))) }
@@ -156,6 +160,8 @@ pub fn run_uncounted<S: Source, K: Sink, L: Ledger>(
     // The causes, even if neither tells its bytes.
     ensures read_fault { result.status ≡ Status.ReadFault → Rose (S.faults source.old) (S.faults source.new) × (sink.new ≡ sink.old) }
     ensures write_fault { result.status ≡ Status.WriteFault → Rose (K.faults sink.old) (K.faults sink.new) }
+    ensures unfailed_read { (result.status ≡ Status.ReadFault → ⊥) → S.faults source.new ≡ S.faults source.old }
+    ensures unfailed_write { (result.status ≡ Status.WriteFault → ⊥) → K.faults sink.new ≡ K.faults sink.old }
     ensures page { is_some result.page ≡ (has_page (asked (map string_bytes words.now)) && is_done result.status) }
     ensures world { IfSome result.page (λ page. IfSome (asked (map string_bytes words.now)) (λ asks. IfSome (seen asks (S.left source.old)) (λ text.
         page.world ≡ (outcome_read (reading (script_text asks text))).world))) }

@@ -89,6 +89,8 @@ pub fn judge_source<S: Source, K: Sink, L: Ledger>(
     ensures read { IfSome (S.left source.old) (λ text. IsTaken result 67108865 text (S.left source.new)) }
     ensures read_fault { result ≡ Status.ReadFault → Rose (S.faults source.old) (S.faults source.new) × (sink.new ≡ sink.old) }
     ensures write_fault { result ≡ Status.WriteFault → Rose (K.faults sink.old) (K.faults sink.new) }
+    ensures unfailed_read { (result ≡ Status.ReadFault → ⊥) → S.faults source.new ≡ S.faults source.old }
+    ensures unfailed_write { (result ≡ Status.WriteFault → ⊥) → K.faults sink.new ≡ K.faults sink.old }
 {
     match read_recorded(alloc, source) {
         Ok(recorded) => judge_recorded(alloc, recorded, sink, steps),

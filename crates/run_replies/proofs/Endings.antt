@@ -42,7 +42,7 @@ module _ (script : Script) (world : World) (opening : world ≡ opening_world (s
   -- to its end
   done-so : {new : World} {after : Option (List ℕ)} {g : ℕ} → Run.Ended runs.Next new before after f g said → Tells Done (outcome_reply (outcome_said said)) before after f g
   unfolding ending_of
-  done-so ended = (ap (λ (flow : runs.Flow). status_at (ending_of flow)) ended.flow_is, ended.written.written)
+  done-so ended = (ap (λ (flow : runs.Flow). status_at (ending_of flow)) ended.flow_is, ended.written.written, ended.unfailed)
 
   pub done_answers : {new : World} {after : Option (List ℕ)} {g : ℕ} → Run.Ended runs.Next new before after f g said → Tells Done (outcome_reply (outcome_read (Ok script))) before after f g
   done_answers {after = after} {g = g} ended = as_run Done after g (done-so ended)
@@ -58,16 +58,17 @@ module _ (script : Script) (world : World) (opening : world ≡ opening_world (s
     limit-so : {A : Type 0} (r : Result A RunFault) (after : Option (List ℕ)) (g : ℕ) → Told r mid after fm g (LimitLine kind line most ∷ []) → Tells (status_after r Limit) (outcome_reply (outcome_said said)) before after f g
     unfolding ending_of
     limit-so (Ok done) after g w =
-        (ap (λ (flow : runs.Flow). status_at (ending_of flow)) met.flow_is, subst (λ (t : List ℕ). Appends before after t) whole (both before mid after (bytes_of met.lines) (bytes_of (LimitLine kind line most ∷ [])) met.written.written w.0.written))
+        (ap (λ (flow : runs.Flow). status_at (ending_of flow)) met.flow_is, subst (λ (t : List ℕ). Appends before after t) whole (both before mid after (bytes_of met.lines) (bytes_of (LimitLine kind line most ∷ [])) met.written.written w.0.written), w.1 ∙ met.unfailed)
     limit-so (Err (fault.Limit other at number)) after g w = absurd w
-    limit-so (Err fault.Memory) after g w = subst (λ (t : List ℕ). AppendsPart before after t) whole (part_behind before (bytes_of met.lines) met.written.written w)
+    limit-so (Err fault.Memory) after g w =
+        (subst (λ (t : List ℕ). AppendsPart before after t) whole (part_behind before (bytes_of met.lines) met.written.written w.0), w.1 ∙ met.unfailed)
     limit-so (Err fault.WriteFault) after g w = subst (λ (t : List ℕ). FailsWithin before after f g t) whole (failure_behind before f (bytes_of met.lines) met.written.written met.unfailed w)
 
     pub limit_said : {A : Type 0} (r : Result A RunFault) (after : Option (List ℕ)) (g : ℕ) → Told r mid after fm g (LimitLine kind line most ∷ []) → Tells (status_after r Limit) (outcome_reply (outcome_read (Ok script))) before after f g
     limit_said r after g w = as_run (status_after r Limit) after g (limit-so r after g w)
 
   -- cut off for want of memory or by a write
-  pub memory_answers : {after : Option (List ℕ)} (g : ℕ) → AppendsPart before after (bytes_of said.lines) → Tells NoMemory (outcome_reply (outcome_read (Ok script))) before after f g
+  pub memory_answers : {after : Option (List ℕ)} (g : ℕ) → AppendsPart before after (bytes_of said.lines) × (g ≡ f) → Tells NoMemory (outcome_reply (outcome_read (Ok script))) before after f g
   memory_answers {after = after} g w = as_run NoMemory after g w
 
   pub failed_answers : {after : Option (List ℕ)} {g : ℕ} → FailsWithin before after f g (bytes_of said.lines) → Tells WriteFault (outcome_reply (outcome_read (Ok script))) before after f g

@@ -31,10 +31,10 @@ IsWhole status = ⊥
 -- a reply whose text was written whole, or stopped
 pub wrote_tells : {A : Type 0} (r : Result A RunFault) (status : Status) (text : List ℕ) (before after : Option (List ℕ)) (f g : ℕ) → IsWhole status → Wrote r before after f g text
     → Tells (status_after r status) (record { text = text; status = status }) before after f g
-wrote_tells (Ok done) Done text before after f g whole w = (refl, w.0)
-wrote_tells (Ok done) Syntax text before after f g whole w = (refl, w.0)
-wrote_tells (Ok done) Limit text before after f g whole w = (refl, w.0)
-wrote_tells (Ok done) Differs text before after f g whole w = (refl, w.0)
+wrote_tells (Ok done) Done text before after f g whole w = (refl, w.0, w.1)
+wrote_tells (Ok done) Syntax text before after f g whole w = (refl, w.0, w.1)
+wrote_tells (Ok done) Limit text before after f g whole w = (refl, w.0, w.1)
+wrote_tells (Ok done) Differs text before after f g whole w = (refl, w.0, w.1)
 wrote_tells (Ok done) status text before after f g whole w = absurd whole
 wrote_tells (Err (fault.Limit kind line number)) status text before after f g whole w = absurd w
 wrote_tells (Err fault.Memory) status text before after f g whole w = w

@@ -52,7 +52,8 @@ line_failed before mid after f fm g whole rest line behind is left here took ros
 
 -- no line is left
 pub lines_written : (before now : Option (List ℕ)) (f g : ℕ) (whole rest : List ℕ) → length rest ≤ 0 → Writing before now f g whole rest → Tells Done (done_with whole) before now f g
-lines_written before now f g whole [] none here = (refl, subst (λ (text : List ℕ). Appends before now text) (sym (append-nil here.part) ∙ here.makes) here.written)
+lines_written before now f g whole [] none here =
+    (refl, subst (λ (text : List ℕ). Appends before now text) (sym (append-nil here.part) ∙ here.makes) here.written, here.unfailed)
 lines_written before now f g whole (b ∷ bs) none here = absurd (omega arith)
 
 -- the line of a check, part by part

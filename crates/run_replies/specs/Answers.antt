@@ -9,11 +9,11 @@ use Rattle.run_replies.specs.declared.status.Status.TheVariants.{NoMemory, ReadF
 -- what each status says of a reply, and of what was written of it. A read that failed comes before this, and `Usage` doesn't come
 -- up
 abbrev pub Tells : Status → Reply → Option (List ℕ) → Option (List ℕ) → ℕ → ℕ → Type 0
-Tells NoMemory reply before after faults faults_after = AppendsPart before after reply.text
+Tells NoMemory reply before after faults faults_after = AppendsPart before after reply.text × (faults_after ≡ faults)
 Tells WriteFault reply before after faults faults_after = FailsWithin before after faults faults_after reply.text
 Tells ReadFault reply before after faults faults_after = ⊥
 Tells Usage reply before after faults faults_after = ⊥
-Tells status reply before after faults faults_after = (reply.status ≡ status) × Appends before after reply.text
+Tells status reply before after faults faults_after = (reply.status ≡ status) × Appends before after reply.text × (faults_after ≡ faults)
 
 -- the same for the whole call: after a read that failed, nothing was written
 abbrev pub Ends : Status → Reply → Option (List ℕ) → Option (List ℕ) → ℕ → ℕ → Type 0

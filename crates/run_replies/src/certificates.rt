@@ -49,10 +49,11 @@ fn certificates_of(alloc: Global, script: &Script) -> Result<Vec<u8>, AllocError
 
 /// Writes the certificates of a script, a line for each.
 ///
-/// Returns `NoMemory` if an allocation fails, or `WriteFault`, only where the sink's fault count rose in this call; a prefix of the text was
-/// written then. Otherwise `Done`.
+/// Returns `NoMemory` if an allocation fails, with nothing written; or `WriteFault`, only where the sink's fault count rose in this call, with
+/// a prefix of the text written. Otherwise `Done`.
 pub fn write_certificates<K: Sink>(alloc: Global, script: &Script, sink: &mut K) -> Status
-    ensures { Tells result (done_with (lint_text script.now.items)) (K.taken sink.old) (K.taken sink.new) (K.faults sink.old) (K.faults sink.new) }
+    ensures tells { Tells result (done_with (lint_text script.now.items)) (K.taken sink.old) (K.taken sink.new) (K.faults sink.old) (K.faults sink.new) }
+    ensures memory { result ≡ Status.NoMemory → sink.new ≡ sink.old }
 {
     match certificates_of(alloc, script) {
         Ok(text) => write_lines(&text, sink),

@@ -84,10 +84,11 @@ fn count_line(alloc: Global, script: &Script) -> Result<Vec<u8>, AllocError>
 
 /// Writes `ok` and the number of a script's commands.
 ///
-/// Returns `NoMemory` if an allocation fails, or `WriteFault`, only where the sink's fault count rose in this call; a prefix of the text was
-/// written then. Otherwise `Done`.
+/// Returns `NoMemory` if an allocation fails, with nothing written; or `WriteFault`, only where the sink's fault count rose in this call, with
+/// a prefix of the text written. Otherwise `Done`.
 pub fn write_check<K: Sink>(alloc: Global, script: &Script, sink: &mut K) -> Status
-    ensures { Tells result (done_with (check_read (Ok script.now))) (K.taken sink.old) (K.taken sink.new) (K.faults sink.old) (K.faults sink.new) }
+    ensures tells { Tells result (done_with (check_read (Ok script.now))) (K.taken sink.old) (K.taken sink.new) (K.faults sink.old) (K.faults sink.new) }
+    ensures memory { result ≡ Status.NoMemory → sink.new ≡ sink.old }
 {
     match count_line(alloc, script) {
         Ok(line) => write_lines(&line, sink),

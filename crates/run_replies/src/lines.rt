@@ -1,5 +1,6 @@
 //! Writing of texts line by line.
 
+ghost use Rattle.std.specs.Prelude.{◌≡◌};
 ghost use Rattle.run_replies.specs.Answers.{Tells};
 ghost use Rattle.run_replies.specs.Replies.{done_with};
 
@@ -11,7 +12,8 @@ use trace_summary::split_line;
 ///
 /// Returns `WriteFault` only where the sink's fault count rose in this call; a prefix of the text was written then. Otherwise `Done`.
 pub fn write_lines<K: Sink>(text: &[u8], sink: &mut K) -> Status
-    ensures { Tells result (done_with text.now) (K.taken sink.old) (K.taken sink.new) (K.faults sink.old) (K.faults sink.new) }
+    ensures tells { Tells result (done_with text.now) (K.taken sink.old) (K.taken sink.new) (K.faults sink.old) (K.faults sink.new) }
+    ensures memory { result ≡ Status.NoMemory → ⊥ }
 {
     let mut rest = text;
     while !rest.is_empty() {

@@ -1,5 +1,6 @@
 //! The reply with a printed script.
 
+ghost use Rattle.std.specs.Prelude.{◌≡◌};
 ghost use Rattle.script_text.specs.ScriptText.{printed};
 ghost use Rattle.run_replies.specs.Answers.{Tells};
 ghost use Rattle.run_replies.specs.Replies.{done_with};
@@ -13,10 +14,11 @@ use text_io::Sink;
 
 /// Writes the printed text of a script, line by line.
 ///
-/// Returns `NoMemory` if an allocation fails, or `WriteFault`, only where the sink's fault count rose in this call; a prefix of the text was
-/// written then. Otherwise `Done`.
+/// Returns `NoMemory` if an allocation fails, with nothing written; or `WriteFault`, only where the sink's fault count rose in this call, with
+/// a prefix of the text written. Otherwise `Done`.
 pub fn write_script<K: Sink>(alloc: Global, script: &Script, sink: &mut K) -> Status
-    ensures { Tells result (done_with (printed script.now)) (K.taken sink.old) (K.taken sink.new) (K.faults sink.old) (K.faults sink.new) }
+    ensures tells { Tells result (done_with (printed script.now)) (K.taken sink.old) (K.taken sink.new) (K.faults sink.old) (K.faults sink.new) }
+    ensures memory { result ≡ Status.NoMemory → sink.new ≡ sink.old }
 {
     match print(alloc, script) {
         Ok(text) => write_lines(&text, sink),

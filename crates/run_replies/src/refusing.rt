@@ -18,8 +18,8 @@ use trace_text::TraceLine;
 /// Writes the trace line for a limit that is met on a line of the script; `number` is the value of the limit.
 ///
 /// # Errors
-/// `WriteFault` only where the sink's fault count rose in this call, or `Memory` if an allocation fails; a prefix of the line was
-/// written then. No other fault.
+/// - `WriteFault` only where the sink's fault count rose in this call; a prefix of the line was written then.
+/// - `Memory` if an allocation fails; nothing was written then. No other fault.
 pub fn write_limit<K: Sink>(
     alloc: Global,
     kind: LimitKind,
@@ -27,8 +27,9 @@ pub fn write_limit<K: Sink>(
     number: u64,
     sink: &mut K,
 ) -> Result<(), RunFault>
-    ensures { Told result (K.taken sink.old) (K.taken sink.new) (K.faults sink.old) (K.faults sink.new)
+    ensures told { Told result (K.taken sink.old) (K.taken sink.new) (K.faults sink.old) (K.faults sink.new)
         (LimitLine kind line number ∷ []) }
+    ensures memory { result ≡ Err RunFault.Memory → sink.new ≡ sink.old }
 {
     let line = TraceLine::Limit(kind, line, number);
     write_one(alloc, &line, sink)
@@ -36,12 +37,13 @@ pub fn write_limit<K: Sink>(
 
 /// Writes the trace line for a limit that was met while a source was read, which must be one that is the same in every version.
 ///
-/// Returns `Limit`; or `NoMemory` if an allocation fails, or `WriteFault`, only where the sink's fault count rose in this call, with a prefix
-/// of the line written.
+/// Returns `Limit`; or `NoMemory` if an allocation fails, with nothing written; or `WriteFault`, only where the sink's fault count rose in
+/// this call, with a prefix of the line written.
 pub fn meet_limit<K: Sink>(alloc: Global, kind: LimitKind, line: u32, sink: &mut K) -> Status
     requires { IsCommon kind }
     ensures tells { Tells result (refused_with (LimitAt kind line)) (K.taken sink.old) (K.taken sink.new) (K.faults sink.old) (K.faults sink.new) }
     ensures done { is_done result ≡ false }
+    ensures memory { result ≡ Status.NoMemory → sink.new ≡ sink.old }
 {
     let wrote = write_limit(alloc, kind, line, kind.common(), sink);
     status_of(wrote, Status::Limit)
@@ -49,11 +51,12 @@ pub fn meet_limit<K: Sink>(alloc: Global, kind: LimitKind, line: u32, sink: &mut
 
 /// Writes the trace line for a text that isn't a script, with the position of its first fault: a line and a column, each counted from 1.
 ///
-/// Returns `Syntax`; or `NoMemory` if an allocation fails, or `WriteFault`, only where the sink's fault count rose in this call, with a prefix
-/// of the line written.
+/// Returns `Syntax`; or `NoMemory` if an allocation fails, with nothing written; or `WriteFault`, only where the sink's fault count rose in
+/// this call, with a prefix of the line written.
 pub fn refuse_at<K: Sink>(alloc: Global, line: u32, column: u32, sink: &mut K) -> Status
     ensures tells { Tells result (refused_with (SyntaxAt line column)) (K.taken sink.old) (K.taken sink.new) (K.faults sink.old) (K.faults sink.new) }
     ensures done { is_done result ≡ false }
+    ensures memory { result ≡ Status.NoMemory → sink.new ≡ sink.old }
 {
     let wrote = write_one(alloc, &TraceLine::Syntax(line, column), sink);
     status_of(wrote, Status::Syntax)

@@ -3,9 +3,10 @@ use Rattle.std.proofs.Common.{◌≡◌, ◌≤◌, ◌<◌, ◌+◌, ◌-◌, �
 use Rattle.std.proofs.lemmas.List.{append-nil, length-take, take_all, take-append-le, take_min}
 use Rattle.std.proofs.lemmas.List.Sums.{count_by-le-length, sum_by-append}
 use Rattle.std.proofs.Math.Seq.{drop-append_seam, take-append-add}
+use Rattle.std.proofs.KnownBytes.{Consumes-trans}
 use Rattle.std.specs.Io.KnownBytes.{Consumes, IsAtEnd}
 use Rattle.std.specs.Prelude.{cond, count_by, drop, false, min, ◌==◌, IfSome, Option, None, Some}
-use Rattle.text_io.specs.Streams.{PassesLimit}
+use Rattle.text_io.specs.Streams.{PassesLimit, TakesAtMost}
 use Rattle.script_source.specs.Recorded.{Divided, Divides, IsFed, TakenBytes, feeds_within, has_feed, opened}
 use Rattle.script_source.proofs.Pieces.{nothing_divided}
 
@@ -99,6 +100,14 @@ module _ (left now : Option (List ℕ)) (faults faults_now : ℕ) (it : TakenByt
       → IfSome left (λ bytes. (length bytes ≤ 67108864) × (after ≡ Some []))
   end_all after last room then none end =
       end-told left after here.fed (omega (arith, room, here.is_fed.counted)) (all_given left now after here.fed last here.consumed then none end)
+
+  -- with a further piece for which there is room, no more than so many bytes are taken
+  pub takes_at_most : (after : Option (List ℕ)) (piece : List ℕ) → length piece ≤ 67108865 - it.bytes → Consumes now after piece → TakesAtMost left after 67108865
+  takes_at_most after piece room then = (
+    here.fed ++ piece,
+    Consumes-trans left now after here.fed piece here.consumed then,
+    omega (arith, length-append here.fed piece, room, here.within, here.is_fed.counted),
+  )
 
   pub taking_more : (after : Option (List ℕ)) (faults_after : ℕ) (piece : List ℕ) (new : TakenBytes) → Consumes left after (here.fed ++ piece) → faults_after ≡ faults_now
       → new.bytes ≤ 67108865 → has_feed new.divided.begun ≡ false → (IsFed here.fed it → IsFed (here.fed ++ piece) new) → Taking left after faults faults_after new

@@ -8,8 +8,8 @@ use Rattle.run_replies.specs.declared.status.Status.TheVariants.{NoMemory, ReadF
 abbrev pub ReadTo : ℕ → (before after : Option (List ℕ)) → List ℕ → Type 0
 ReadTo limit before after bytes = IfSome before (λ source. (bytes ≡ take limit source) × (after ≡ Some (drop limit source)))
 
--- why a source can't be read: a read failed, or memory was refused, for which no reason is given
+-- why a source can't be read: a read failed; or memory was refused, for which no reason is given, and no read failed
 abbrev pub IsUnread : Status → (faults faults_after : ℕ) → Type 0
 IsUnread ReadFault faults faults_after = Rose faults faults_after
-IsUnread NoMemory faults faults_after = Unit {0}
+IsUnread NoMemory faults faults_after = faults_after ≡ faults
 IsUnread status faults faults_after = ⊥

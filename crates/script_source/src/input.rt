@@ -1,6 +1,7 @@
 //! Reading the text of a script in pieces.
 
 ghost use Rattle.std.specs.Prelude.{◌≡◌, ◌++◌, ◌-◌, [], length, take, IfErr, IfOk, OnErr, OnOk};
+ghost use Rattle.text_io.specs.Streams.{TakesAtMost};
 ghost use Rattle.script_model.specs.Reading.{reading};
 ghost use Rattle.script_syntax.specs.Parsing.{HasCommonLimit, Parses};
 ghost use Rattle.script_source.specs.Sources.{IsUnread, ReadTo};
@@ -86,10 +87,12 @@ impl ScriptText {
 ///
 /// # Errors
 /// The status of a run that can't read it: `ReadFault` only where the source's fault count rose in this call, or `NoMemory` if an
-/// allocation fails; no other status. How much was consumed then is unspecified.
+/// allocation fails; no other status. At most 16,777,217 bytes were consumed then.
 pub fn read_script<S: Source>(alloc: Global, source: &mut S) -> Result<ScriptText, Status>
     ensures read { IfOk result (λ script. ReadTo 16777217 (S.left source.old) (S.left source.new) script) }
     ensures cause { IfErr result (λ status. IsUnread status (S.faults source.old) (S.faults source.new)) }
+    ensures only_by_failing { OnOk result (S.faults source.new ≡ S.faults source.old) }
+    ensures at_most { TakesAtMost (S.left source.old) (S.left source.new) 16777217 }
 {
     let mut script = ScriptText::new(alloc);
     let mut buffer = [0u8; PIECE];

@@ -1,7 +1,7 @@
 //! Reading a source with a recorded trace in pieces: its script is lexed as it arrives, and its trace is stored only once.
 
 ghost use Rattle.std.specs.Prelude.{◌≡◌, ◌≤◌, ◌<◌, ◌+◌, ◌-◌, ◌==◌, ◌++◌, ℕ, List, [], Some, IsTrue, false, length, take, IfErr, IfOk, IfSome, OnOk};
-ghost use Rattle.text_io.specs.Streams.{IsCauseOfReading};
+ghost use Rattle.text_io.specs.Streams.{IsCauseOfReading, TakesAtMost};
 ghost use Rattle.trace_judge.specs.Recordings.{is_divider};
 ghost use Rattle.trace_summary.specs.Lines.{first_line};
 ghost use Rattle.script_source.specs.Recorded.{Divides, IsDivided, IsFed, has_feed, opened};
@@ -336,6 +336,7 @@ fn read_pieces<S: Source>(alloc: Global, source: &mut S) -> Result<RecordedText,
     ensures fault { IfErr result (λ fault. IsCauseOfReading fault (S.left source.old) (S.left source.new) 67108864
         (S.faults source.old) (S.faults source.new)) }
     ensures only_by_failing { OnOk result (S.faults source.new ≡ S.faults source.old) }
+    ensures at_most { TakesAtMost (S.left source.old) (S.left source.new) 67108865 }
 {
     let mut it = Taken::new(alloc);
     let mut buffer = [0u8; PIECE];
@@ -365,6 +366,8 @@ pub fn read_recorded<S: Source>(alloc: Global, source: &mut S) -> Result<Recorde
     ensures end { OnOk result (IfSome (S.left source.old) (λ bytes. (length bytes ≤ 67108864) × (S.left source.new ≡ Some []))) }
     ensures fault { IfErr result (λ fault. IsCauseOfReading fault (S.left source.old) (S.left source.new) 67108864
         (S.faults source.old) (S.faults source.new)) }
+    ensures only_by_failing { OnOk result (S.faults source.new ≡ S.faults source.old) }
+    ensures at_most { TakesAtMost (S.left source.old) (S.left source.new) 67108865 }
 {
     let mut recorded = read_pieces(alloc, source)?;
     match recorded.end() {

@@ -61,9 +61,11 @@ named_more {before} {mid} {after} {f} {fm} {g} {whole} {line} {behind} name rest
 pub cut_behind : (A B : Type 0) (before mid after : Option (List ℕ)) (f fm g : ℕ) (whole rest : List ℕ) (it : RunFault) (text more : List ℕ) → Writing before mid f fm whole rest → rest ≡ text ++ more
     → Wrote {A = A} (Err it) mid after fm g text → Wrote {A = B} (Err it) before after f g whole
 cut_behind A B before mid after f fm g whole rest (fault.Limit kind line number) text more here is cut = absurd cut
-cut_behind A B before mid after f fm g whole rest fault.Memory text more here is cut =
-    subst (λ (t : List ℕ). AppendsPart before after t) (ap (λ t. here.part ++ t) (sym is) ∙ here.makes)
-    (part_behind before here.part here.written (part_begins more cut))
+cut_behind A B before mid after f fm g whole rest fault.Memory text more here is cut = (
+  subst (λ (t : List ℕ). AppendsPart before after t) (ap (λ t. here.part ++ t) (sym is) ∙ here.makes)
+      (part_behind before here.part here.written (part_begins more cut.0)),
+  cut.1 ∙ here.unfailed,
+)
 cut_behind A B before mid after f fm g whole rest fault.WriteFault text more here is cut =
     subst (λ (t : List ℕ). FailsWithin before after f g t) (ap (λ t. here.part ++ t) (sym is) ∙ here.makes)
     (failure_behind before f here.part here.written here.unfailed (failure_begins more cut))

@@ -277,7 +277,7 @@ pub wrote_behind : {A : Type 0} (r : Result A RunFault) (before mid after : Opti
     → Wrote r before after f g (first ++ second)
 wrote_behind (Ok value) before mid after f fm g first second begun unfailed wrote = (both before mid after first second begun wrote.0, wrote.1 ∙ unfailed)
 wrote_behind (Err (fault.Limit kind line number)) before mid after f fm g first second begun unfailed wrote = absurd wrote
-wrote_behind (Err fault.Memory) before mid after f fm g first second begun unfailed wrote = part_behind before first begun wrote
+wrote_behind (Err fault.Memory) before mid after f fm g first second begun unfailed wrote = (part_behind before first begun wrote.0, wrote.1 ∙ unfailed)
 wrote_behind (Err fault.WriteFault) before mid after f fm g first second begun unfailed wrote = failure_behind before f first begun unfailed wrote
 
 whole-at : (faulty limited : Bool) → IsWhole (cond faulty Syntax (cond limited Limit Done))
@@ -342,7 +342,7 @@ pub cut_tells : (A : Type 0) (it : RunFault) (source : List ℕ) (before after :
     → Tells (status_of it) (run_reply (stream_run source)) before after f g
 cut_tells A (fault.Limit kind line number) source before after f g cut = absurd cut
 cut_tells A fault.Memory source before after f g cut =
-    subst (λ (t : List ℕ). AppendsPart before after t) (ap (λ (r : StreamRun). r.text) (sym (stream_parts source))) (part_begins (parts_run (stream_opened (scripts_of source)).pages (parts_of source)).text cut)
+    (subst (λ (t : List ℕ). AppendsPart before after t) (ap (λ (r : StreamRun). r.text) (sym (stream_parts source))) (part_begins (parts_run (stream_opened (scripts_of source)).pages (parts_of source)).text cut.0), cut.1)
 cut_tells A fault.WriteFault source before after f g cut =
     subst (λ (t : List ℕ). FailsWithin before after f g t) (ap (λ (r : StreamRun). r.text) (sym (stream_parts source))) (failure_begins (parts_run (stream_opened (scripts_of source)).pages (parts_of source)).text cut)
 
@@ -378,11 +378,11 @@ ready_more (Err it) pages longer page is ready = tt
 pub then_wrote : (r : Result (Unit {0}) RunFault) (before after : Option (List ℕ)) (f g : ℕ) (text : List ℕ) → OnErr r (r ≡ Err fault.Memory) → Appends before after text → g ≡ f → Wrote r before after f g text
 then_wrote (Ok done) before after f g text memory written unfailed = (written, unfailed)
 then_wrote (Err (fault.Limit kind line number)) before after f g text memory written unfailed = absurd (let no : ⊥ = cc in no)
-then_wrote (Err fault.Memory) before after f g text memory written unfailed = record { part = text; rest = []; whole = sym (append-nil text); written = written }
+then_wrote (Err fault.Memory) before after f g text memory written unfailed = (record { part = text; rest = []; whole = sym (append-nil text); written = written }, unfailed)
 then_wrote (Err fault.WriteFault) before after f g text memory written unfailed = absurd (let no : ⊥ = cc in no)
 
 pub memory_cut : (it : RunFault) (now : Option (List ℕ)) (f : ℕ) (text : List ℕ) → it ≡ fault.Memory → Wrote {A = Unit {0}} (Err it) now now f f text
-memory_cut it now f text is = subst (λ (e : RunFault). Wrote {A = Unit {0}} (Err e) now now f f text) (sym is) (no_part now text)
+memory_cut it now f text is = subst (λ (e : RunFault). Wrote {A = Unit {0}} (Err e) now now f f text) (sym is) (no_part now text, refl)
 
 -- what holds whatever is answered
 pub on_ok : {A P : Type 0} (r : Result A RunFault) → P → OnOk r P

@@ -305,7 +305,7 @@ fn run_bytes<K: Sink, L: Ledger>(
 /// - `Done`, `Syntax` and `Limit`: exactly as the reply to the source's bytes says, and all of its text was written. The
 ///   source is at its end then; of more than 16,777,216 bytes one more than that many were consumed. `Usage` doesn't occur.
 /// - `ReadFault` and `WriteFault`: only if that fault count rose in this call; nothing was written, or a prefix of the text,
-///   respectively. `NoMemory` if an allocation fails, after a prefix of the text.
+///   respectively. With any other status that count is unchanged. `NoMemory` if an allocation fails, after a prefix of the text.
 pub fn run_pages<S: Source, K: Sink, L: Ledger>(
     alloc: Global,
     source: &mut S,
@@ -319,6 +319,8 @@ pub fn run_pages<S: Source, K: Sink, L: Ledger>(
     ensures read { IfSome (S.left source.old) (λ text. IsTaken result 16777217 text (S.left source.new)) }
     ensures read_fault { result ≡ Status.ReadFault → Rose (S.faults source.old) (S.faults source.new) × (sink.new ≡ sink.old) }
     ensures write_fault { result ≡ Status.WriteFault → Rose (K.faults sink.old) (K.faults sink.new) }
+    ensures unfailed_read { (result ≡ Status.ReadFault → ⊥) → S.faults source.new ≡ S.faults source.old }
+    ensures unfailed_write { (result ≡ Status.WriteFault → ⊥) → K.faults sink.new ≡ K.faults sink.old }
 {
     match read_all(alloc, source, MOST_STREAM) {
         Ok(bytes) => run_bytes(alloc, &bytes, sink, steps),

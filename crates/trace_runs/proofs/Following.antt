@@ -72,7 +72,10 @@ cut_run Memory {before} {after} {said = said} rest run =
     let more = followed_more said rest in
     record {
       ended = tt;
-      cut_off = subst (λ (t : List ℕ). AppendsPart before after t) (bytes_both (said.lines) more.0 ∙ sym (ap bytes_of more.1)) (part_begins (bytes_of more.0) run.cut_off);
+      cut_off = (
+        subst (λ (t : List ℕ). AppendsPart before after t) (bytes_both (said.lines) more.0 ∙ sym (ap bytes_of more.1)) (part_begins (bytes_of more.0) run.cut_off.0),
+        run.cut_off.1,
+      );
     }
 cut_run WriteFault {before} {after} {f} {g} {said} rest run =
     let more = followed_more said rest in

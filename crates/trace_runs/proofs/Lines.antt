@@ -46,5 +46,5 @@ pub told_one : {A : Type 0} (result : Result A RunFault) (before after : Option 
     → Wrote result before after f g (line_text line) → Told result before after f g (line ∷ [])
 told_one (Ok value) before after f g line is wrote = (says_one is wrote.0, wrote.1)
 told_one (Err (Limit kind line_number number)) before after f g line is wrote = absurd wrote
-told_one (Err Memory) before after f g line is wrote = subst (λ (t : List ℕ). AppendsPart before after t) (bytes_one line) wrote
+told_one (Err Memory) before after f g line is wrote = (subst (λ (t : List ℕ). AppendsPart before after t) (bytes_one line) wrote.0, wrote.1)
 told_one (Err WriteFault) before after f g line is wrote = subst (λ (t : List ℕ). FailsWithin before after f g t) (bytes_one line) wrote

@@ -29,7 +29,7 @@ silent_run {now = now} goes = record {
 
 -- no memory was left before anything was written
 pub memory_run : {A S : Type 0} {flow : A → Going} {state : A → S} {now : Option (List ℕ)} {f : ℕ} (said : Said S) → Runs flow state (Err Memory) now now f f said
-memory_run {now = now} said = record { ended = tt; cut_off = no_part now (bytes_of (said.lines)) }
+memory_run {now = now} said = record { ended = tt; cut_off = (no_part now (bytes_of (said.lines)), refl) }
 
 -- the lines of a step
 pub lines_run : {A S : Type 0} {flow : A → Going} {state : A → S} (result : Result A RunFault) {before after : Option (List ℕ)} {f g : ℕ} {said : Said S}
@@ -59,7 +59,7 @@ behind_cut (Limit kind line number) before mid after f fm g part said first unfa
   flow_is = cut.flow_is;
 }
 behind_cut Memory before mid after f fm g part said first unfailed cut =
-    subst (λ (t : List ℕ). AppendsPart before after t) (bytes_both part (said.lines)) (part_behind before (bytes_of part) first.written cut)
+    (subst (λ (t : List ℕ). AppendsPart before after t) (bytes_both part (said.lines)) (part_behind before (bytes_of part) first.written cut.0), cut.1 ∙ unfailed)
 behind_cut WriteFault before mid after f fm g part said first unfailed cut =
     subst (λ (t : List ℕ). FailsWithin before after f g t) (bytes_both part (said.lines)) (failure_behind before f (bytes_of part) first.written unfailed cut)
 
@@ -91,7 +91,8 @@ cut_as (Limit kind line number) lines limited run = record {
     flow_is = limited run.cut_off.flow_is;
   };
 }
-cut_as Memory {before} {after} lines limited run = record { ended = tt; cut_off = subst (λ (l : List TraceLine). AppendsPart before after (bytes_of l)) lines run.cut_off }
+cut_as Memory {before} {after} lines limited run =
+    record { ended = tt; cut_off = (subst (λ (l : List TraceLine). AppendsPart before after (bytes_of l)) lines run.cut_off.0, run.cut_off.1) }
 cut_as WriteFault {before} {after} {f} {g} lines limited run =
     record { ended = tt; cut_off = subst (λ (l : List TraceLine). FailsWithin before after f g (bytes_of l)) lines run.cut_off }
 

@@ -27,7 +27,7 @@ pub record MeetsLimit {S : Type 0} (kind : LimitKind) (line number : ℕ) (befor
 -- why a run was cut off, and how much of it was written
 abbrev pub CutOff : {S : Type 0} → RunFault → Option (List ℕ) → Option (List ℕ) → ℕ → ℕ → Said S → Type 0
 CutOff (Limit kind line number) before after faults faults_after said = MeetsLimit kind line number before after faults faults_after said
-CutOff Memory before after faults faults_after said = AppendsPart before after (bytes_of said.lines)
+CutOff Memory before after faults faults_after said = AppendsPart before after (bytes_of said.lines) × (faults_after ≡ faults)
 CutOff WriteFault before after faults faults_after said = FailsWithin before after faults faults_after (bytes_of said.lines)
 
 -- a run to its end or to where it was cut off. The value that is returned gives its flow and its state

@@ -25,7 +25,7 @@ pub record FailsWithin (before after : Option (List ℕ)) (faults faults_after :
 abbrev pub Wrote : {A : Type 0} → Result A RunFault → Option (List ℕ) → Option (List ℕ) → ℕ → ℕ → List ℕ → Type 0
 Wrote (Ok value) before after faults faults_after text = Appends before after text × (faults_after ≡ faults)
 Wrote (Err (Limit kind line number)) before after faults faults_after text = ⊥
-Wrote (Err Memory) before after faults faults_after text = AppendsPart before after text
+Wrote (Err Memory) before after faults faults_after text = AppendsPart before after text × (faults_after ≡ faults)
 Wrote (Err WriteFault) before after faults faults_after text = FailsWithin before after faults faults_after text
 
 -- lines were written, each of which can be read back
@@ -38,5 +38,5 @@ pub record Says (before after : Option (List ℕ)) (lines : List TraceLine) : Ty
 abbrev pub Told : {A : Type 0} → Result A RunFault → Option (List ℕ) → Option (List ℕ) → ℕ → ℕ → List TraceLine → Type 0
 Told (Ok value) before after faults faults_after lines = Says before after lines × (faults_after ≡ faults)
 Told (Err (Limit kind line number)) before after faults faults_after lines = ⊥
-Told (Err Memory) before after faults faults_after lines = AppendsPart before after (bytes_of lines)
+Told (Err Memory) before after faults faults_after lines = AppendsPart before after (bytes_of lines) × (faults_after ≡ faults)
 Told (Err WriteFault) before after faults faults_after lines = FailsWithin before after faults faults_after (bytes_of lines)

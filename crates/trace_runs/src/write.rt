@@ -1,6 +1,6 @@
 //! Writing of lines to a sink.
 
-ghost use Rattle.std.specs.Prelude.{[], ◌∷◌};
+ghost use Rattle.std.specs.Prelude.{◌≡◌, [], ◌∷◌, IfErr};
 ghost use Rattle.script_model.specs.TraceLines.{ThrowLine};
 ghost use Rattle.page_model.specs.Runs.{Thrown};
 ghost use Rattle.page_model.specs.World.{World};
@@ -20,7 +20,8 @@ use trace_text::{TraceLine, value_is_a_line, write_line};
 /// # Errors
 /// `WriteFault`, and no other fault, only where the sink's fault count rose in this call; a prefix of the text was written then.
 pub fn write_text<K: Sink>(sink: &mut K, text: &[u8]) -> Result<(), RunFault>
-    ensures { Wrote result (K.taken sink.old) (K.taken sink.new) (K.faults sink.old) (K.faults sink.new) text.now }
+    ensures wrote { Wrote result (K.taken sink.old) (K.taken sink.new) (K.faults sink.old) (K.faults sink.new) text.now }
+    ensures fault { IfErr result (λ fault. fault ≡ RunFault.WriteFault) }
 {
     match write_all(sink, text) {
         Ok(()) => Ok(()),
@@ -31,11 +32,12 @@ pub fn write_text<K: Sink>(sink: &mut K, text: &[u8]) -> Result<(), RunFault>
 /// Writes a line, which can be read back.
 ///
 /// # Errors
-/// `WriteFault` only where the sink's fault count rose in this call, or `Memory` if an allocation fails; a prefix of the line was
-/// written then. No other fault.
+/// - `WriteFault` only where the sink's fault count rose in this call; a prefix of the line was written then.
+/// - `Memory` if an allocation fails; nothing was written then. No other fault.
 pub fn write_one<K: Sink>(alloc: Global, line: &TraceLine, sink: &mut K) -> Result<(), RunFault>
     requires { HasReach (seen_line line.now) }
-    ensures { Told result (K.taken sink.old) (K.taken sink.new) (K.faults sink.old) (K.faults sink.new) (seen_line line.now ∷ []) }
+    ensures told { Told result (K.taken sink.old) (K.taken sink.new) (K.faults sink.old) (K.faults sink.new) (seen_line line.now ∷ []) }
+    ensures memory { result ≡ Err RunFault.Memory → sink.new ≡ sink.old }
 {
     value_is_a_line(line);
     let mut text = Vec::new(alloc);
@@ -55,8 +57,9 @@ pub fn write_throw<K: Sink>(
     kind: ThrowKind,
     sink: &mut K,
 ) -> Result<Flow, RunFault>
-    ensures { (state : World) → Runs flow_of (λ _. state) result (K.taken sink.old) (K.taken sink.new) (K.faults sink.old) (K.faults sink.new)
+    ensures runs { (state : World) → Runs flow_of (λ _. state) result (K.taken sink.old) (K.taken sink.new) (K.faults sink.old) (K.faults sink.new)
         (record { lines = ThrowLine line kind ∷ []; flow = Thrown; state = state }) }
+    ensures memory { result ≡ Err RunFault.Memory → sink.new ≡ sink.old }
 {
     match write_one(alloc, &TraceLine::Throw(line, kind), sink) {
         Ok(()) => Ok(Flow::Thrown),

@@ -34,7 +34,7 @@ pub writing_cut : (fault : RunFault) (before mid after : Option (List ℕ)) (f f
     → Wrote {A = Unit {0}} (Err fault) mid after fm g text → Wrote {A = Unit {0}} (Err fault) before after f g whole
 writing_cut (Limit kind line number) before mid after f fm g whole text rest here wrote = absurd wrote
 writing_cut Memory before mid after f fm g whole text rest here wrote =
-    subst (λ (t : List ℕ). AppendsPart before after t) here.makes (part_behind before here.part here.written (part_begins rest wrote))
+    (subst (λ (t : List ℕ). AppendsPart before after t) here.makes (part_behind before here.part here.written (part_begins rest wrote.0)), wrote.1 ∙ here.unfailed)
 writing_cut WriteFault before mid after f fm g whole text rest here wrote =
     subst (λ (t : List ℕ). FailsWithin before after f g t) here.makes (failure_behind before f here.part here.written here.unfailed (failure_begins rest wrote))
 

@@ -14,19 +14,19 @@ returns-in_err-write_one g c =
     stopped c.from_residual.result c.in_err-write_one.field-0.0 c.from_residual.ensures refl refl
     (run_same (fire_is _ _ _ _ _)
     (cut_run {A = Unit {0}} {flow = goes_on} {state = λ value. c.args.run.now.page.now.world} c.in_err-write_one.field-0.0 _
-    (cut_run c.in_err-write_one.field-0.0 _ (say_run {A = Unit {0}} (Err c.in_err-write_one.field-0.0) c.in_err-write_one.ensures))))
+    (cut_run c.in_err-write_one.field-0.0 _ (say_run {A = Unit {0}} (Err c.in_err-write_one.field-0.0) c.in_err-write_one.ensures.told))))
 
 pub returns-in_err-invoke : goal.returns-in_err-invoke
 returns-in_err-invoke g c =
     stopped c.from_residual-in_err-invoke.result c.in_err-invoke.field-0.0 c.from_residual-in_err-invoke.ensures c.in_err-invoke.ensures.script c.in_err-invoke.ensures.lent
     (run_same (fire_is _ _ _ _ _)
     (cut_run c.in_err-invoke.field-0.0 _
-    (then_run (Err c.in_err-invoke.field-0.0) _ refl (say_run (Ok (tt {0})) c.in_ok-write_one.ensures) c.in_err-invoke.ensures.says)))
+    (then_run (Err c.in_err-invoke.field-0.0) _ refl (say_run (Ok (tt {0})) c.in_ok-write_one.ensures.told) c.in_err-invoke.ensures.says)))
 
 pub returns : goal.returns
 returns g c =
     let invoked = c.in_ok-invoke.ensures in
     passed_on c.bubble.ensures invoked.script invoked.lent
     (run_same (fire_is _ _ _ _ _)
-    (then_run c.bubble.result _ refl (then_run (Ok c.in_ok-invoke.field-0) _ refl (say_run (Ok (tt {0})) c.in_ok-write_one.ensures) invoked.says)
+    (then_run c.bubble.result _ refl (then_run (Ok c.in_ok-invoke.field-0) _ refl (say_run (Ok (tt {0})) c.in_ok-write_one.ensures.told) invoked.says)
     (over_first (λ (script : Script). bubble script (seen_target c.args.target) c.args.event c.invoke.new.run.page.now.world) invoked.script c.bubble.ensures.says)))

@@ -13,10 +13,10 @@ pub returns-in_err-write_one : goal.returns-in_err-write_one
 returns-in_err-write_one g c =
     stopped c.from_residual.result c.in_err-write_one.field-0.0 c.from_residual.ensures refl refl
     (untold_run _ c.args.document.0 (Some c.args.handler.0) c.args.run.now.page.now.world (ap (λ name. FrameLine name c.args.key) c.label-name.ensures) c.in_err-write_one.field-0.0
-    c.in_err-write_one.ensures)
+    c.in_err-write_one.ensures.told)
 
 pub returns : goal.returns
 returns g c =
     passed_on c.call_handler.ensures refl refl
     (told_run _ c.args.document.0 (Some c.args.handler.0) c.args.run.now.page.now.world (ap (λ name. FrameLine name c.args.key) c.label-name.ensures) c.call_handler.result
-    c.in_ok-write_one.ensures c.call_handler.ensures.says)
+    c.in_ok-write_one.ensures.told c.call_handler.ensures.says)

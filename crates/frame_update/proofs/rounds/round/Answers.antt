@@ -25,7 +25,7 @@ returns-in_err-write_one-clause-goes g c =
     let sent = c.in_ok-least.ensures in
     stopped c.from_residual-in_err-write_one.result c.in_err-write_one.field-0.0 c.from_residual-in_err-write_one.ensures sent.script sent.lent
     (round_unsaid (handlers_in c.args.run.now.script.now.items) c.args.document.0 c.args.run.now.page.now.world c.in_ok-least.least c.broadcast.new.run.page.now.world sent.says (sym c.if-not-is_active.ensures)
-    c.label-name.result c.unwrap_or-depth.result c.in_err-write_one.field-0.0 c.label-name.ensures c.unwrap_or-depth.ensures c.in_err-write_one.ensures)
+    c.label-name.result c.unwrap_or-depth.result c.in_err-write_one.field-0.0 c.label-name.ensures c.unwrap_or-depth.ensures c.in_err-write_one.ensures.told)
 
 pub returns-clause-goes : goal.returns-clause-goes
 returns-clause-goes g c =
@@ -34,7 +34,7 @@ returns-clause-goes g c =
     (gathered_ready c.broadcast.new.run.script.now.items c.args.document.0 c.unwrap_or-depth.result c.broadcast.new.run.page.now.world c.gather.new.page.world (ap (λ (page : PageView). page.world) c.gather.ensures.gathered) sent.ready)
     (round_said (handlers_in c.args.run.now.script.now.items) c.args.document.0 c.args.run.now.page.now.world c.in_ok-least.least c.broadcast.new.run.page.now.world sent.says (sym c.if-not-is_active.ensures)
     c.label-name.result c.unwrap_or-depth.result c.gather.new.page.world c.gather.result c.label-name.ensures c.unwrap_or-depth.ensures
-    (ap (λ (page : PageView). page.world) c.gather.ensures.gathered) c.in_ok-write_one.ensures)
+    (ap (λ (page : PageView). page.world) c.gather.ensures.gathered) c.in_ok-write_one.ensures.told)
 
 pub returns-clause-depth : goal.returns-clause-depth
 returns-clause-depth g c =

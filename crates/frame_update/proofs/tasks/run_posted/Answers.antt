@@ -23,7 +23,7 @@ returns-in_err-write_one g c =
     (untold_run _ c.args.document.0 (Some c.args.handler.0) c.args.run.now.page.now.world
     (ap (λ name. TaskLine name c.handler_name.result) c.label-name.ensures
     ∙ ap (TaskLine (document_text (c.args.run.now.page.now.world.names) c.args.document.0)) c.handler_name.ensures)
-    c.in_err-write_one.field-0.0 c.in_err-write_one.ensures))
+    c.in_err-write_one.field-0.0 c.in_err-write_one.ensures.told))
 
 pub returns : goal.returns
 returns g c =
@@ -32,4 +32,4 @@ returns g c =
     (told_run _ c.args.document.0 (Some c.args.handler.0) c.args.run.now.page.now.world
     (ap (λ name. TaskLine name c.handler_name.result) c.label-name.ensures
     ∙ ap (TaskLine (document_text (c.args.run.now.page.now.world.names) c.args.document.0)) c.handler_name.ensures)
-    c.call_handler.result c.in_ok-write_one.ensures c.call_handler.ensures.says))
+    c.call_handler.result c.in_ok-write_one.ensures.told c.call_handler.ensures.says))

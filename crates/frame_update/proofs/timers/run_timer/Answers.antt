@@ -20,11 +20,11 @@ returns-in_err-write_one g c =
     stopped c.from_residual.result c.in_err-write_one.field-0.0 c.from_residual.ensures refl refl
     (run_same (told_active _ c.args.document.0 (Some c.args.handler.0) _ c.args.run.now.page.now.world (sym c.if-not-is_active.ensures))
     (untold_run _ c.args.document.0 (Some c.args.handler.0) c.args.run.now.page.now.world (ap (λ name. TimerLine name c.args.key) c.label-name.ensures) c.in_err-write_one.field-0.0
-    c.in_err-write_one.ensures))
+    c.in_err-write_one.ensures.told))
 
 pub returns : goal.returns
 returns g c =
     passed_on c.call_handler.ensures refl refl
     (run_same (told_active _ c.args.document.0 (Some c.args.handler.0) _ c.args.run.now.page.now.world (sym c.if-not-is_active.ensures))
     (told_run _ c.args.document.0 (Some c.args.handler.0) c.args.run.now.page.now.world (ap (λ name. TimerLine name c.args.key) c.label-name.ensures) c.call_handler.result
-    c.in_ok-write_one.ensures c.call_handler.ensures.says))
+    c.in_ok-write_one.ensures.told c.call_handler.ensures.says))

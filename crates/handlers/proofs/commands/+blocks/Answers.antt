@@ -86,7 +86,7 @@ run_when-returns-in-Ok-false g t c =
 
 pub run_when-returns-in-Err : goal.run_when-returns-in-Err
 run_when-returns-in-Err g t c =
-    threw_run _ _ _ (found_same _ _ c.subject_at-present.ensures c.in-Err.ensures.answer) (ap (λ (page : PageView). page.world) c.in-Err.ensures.same) (c.write_throw.ensures _)
+    threw_run _ _ _ (found_same _ _ c.subject_at-present.ensures c.in-Err.ensures.answer) (ap (λ (page : PageView). page.world) c.in-Err.ensures.same) (c.write_throw.ensures.runs _)
 
 pub run_block-loop-command-init : goal.run_block-loop-command-init
 run_block-loop-command-init g t c =

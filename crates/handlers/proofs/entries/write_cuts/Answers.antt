@@ -27,7 +27,7 @@ returns-in-Err g c =
     (rest_same
     (lines_more _ c.args.entries.now c.loop-entry.entry-index _ _ _ (omega arith) c.entry-item.is c.intersection_line-line.ensures)
     c.loop-entry.invariant)
-    c.in-Err.ensures)
+    c.in-Err.ensures.told)
 
 pub loop-entry-preserved : goal.loop-entry-preserved
 loop-entry-preserved g c =
@@ -35,7 +35,7 @@ loop-entry-preserved g c =
     (rest_same
     (lines_more _ c.args.entries.now c.loop-entry.entry-index _ _ _ (omega arith) c.entry-item.is c.intersection_line-line.ensures)
     c.loop-entry.invariant)
-    c.in_default.ensures.0 c.in_default.ensures.1
+    c.in_default.ensures.told.0 c.in_default.ensures.told.1
 
 pub returns : goal.returns
 returns g c =

@@ -1,3 +1,4 @@
+use Rattle.run_replies.proofs.Telling.{unfailed}
 use Rattle.replay_run.proofs.Judged.{ends_past, ends_whole, taken_whole}
 use Rattle.replay_run.proofs.judging.judge_source.Goals as goal
 
@@ -12,3 +13,13 @@ pub returns-in-Err-TooLong-clause-ends : goal.returns-in-Err-TooLong-clause-ends
 returns-in-Err-TooLong-clause-ends g c =
     let cause = rw c.in-Err-TooLong.field-0-is at c.in-Err-TooLong.ensures.fault in
     ends_past c.meet_limit.result _ _ c.in-Err-TooLong.feeds _ _ _ _ cause.2 c.meet_limit.ensures.tells
+
+pub returns-in-Ok-clause-unfailed_write : goal.returns-in-Ok-clause-unfailed_write
+returns-in-Ok-clause-unfailed_write g c = unfailed c.judge_recorded.result _ _ _ _ _ c.judge_recorded.ensures
+
+pub returns-in-Err-TooLong-clause-unfailed_read : goal.returns-in-Err-TooLong-clause-unfailed_read
+returns-in-Err-TooLong-clause-unfailed_read g c =
+    let cause = rw c.in-Err-TooLong.field-0-is at c.in-Err-TooLong.ensures.fault in λ other. cause.1
+
+pub returns-in-Err-TooLong-clause-unfailed_write : goal.returns-in-Err-TooLong-clause-unfailed_write
+returns-in-Err-TooLong-clause-unfailed_write g c = unfailed c.meet_limit.result _ _ _ _ _ c.meet_limit.ensures.tells

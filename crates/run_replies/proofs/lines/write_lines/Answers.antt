@@ -17,11 +17,11 @@ pub loop-rest-preserved : goal.loop-rest-preserved
 loop-rest-preserved g c =
     line_written _ _ _ c.split_line.ensures.line c.split_line.ensures.rest c.loop-rest.invariant c.in-Ok.ensures.whole c.in-Ok.ensures.only_by_failing
 
-pub returns : goal.returns
-returns g c =
+pub returns-clause-tells : goal.returns-clause-tells
+returns-clause-tells g c =
     let none : length c.loop-rest.rest.now ≤ 0 = search rules in
     lines_written _ _ _ _ _ _ none c.loop-rest.invariant
 
-pub returns-in-Err : goal.returns-in-Err
-returns-in-Err g c =
+pub returns-in-Err-clause-tells : goal.returns-in-Err-clause-tells
+returns-in-Err-clause-tells g c =
     line_failed _ _ _ _ _ _ _ _ _ _ c.split_line.ensures.line c.split_line.ensures.rest c.loop-rest.invariant c.in-Err.ensures.part c.in-Err.ensures.failed

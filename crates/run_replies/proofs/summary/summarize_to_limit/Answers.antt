@@ -6,7 +6,7 @@ use Rattle.run_replies.proofs.summary.summarize_to_limit.Goals as goal
 
 pub returns-in-Ok-clause-tells : goal.returns-in-Ok-clause-tells
 returns-in-Ok-clause-tells g c =
-    λ lines is. limit_tells c.write_summary.result c.args.kind c.args.line _ _ _ c.status_of.result _ _ _ _ lines c.in-Ok.ensures.0 is
+    λ lines is. limit_tells c.write_summary.result c.args.kind c.args.line _ _ _ c.status_of.result _ _ _ _ lines c.in-Ok.ensures.told.0 is
     (λ all it. c.write_summary.ensures all (subst (λ (text : List ℕ). IsTrace text all) (sym c.taken.ensures) it)) c.status_of.ensures.status
 
 pub returns-in-Ok-clause-done : goal.returns-in-Ok-clause-done

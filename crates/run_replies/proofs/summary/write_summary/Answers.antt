@@ -1,3 +1,4 @@
+use Rattle.std.proofs.Common.{refl}
 use Rattle.trace_runs.proofs.Writes.{no_part}
 use Rattle.run_replies.proofs.Summaries.{summary_wrote}
 use Rattle.run_replies.proofs.summary.write_summary.Goals as goal
@@ -9,4 +10,4 @@ returns-in-Ok g c =
     (c.rows_are_the_summary.ensures lines) c.write_to.ensures
 
 pub returns-in-Err : goal.returns-in-Err
-returns-in-Err g c = λ lines is. no_part _ _
+returns-in-Err g c = λ lines is. (no_part _ _, refl)

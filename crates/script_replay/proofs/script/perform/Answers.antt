@@ -8,17 +8,17 @@ returns-in-Replay-clause-tells g c =
     job_tells c.run_script.result.status _ _ _ _ _ _ _ c.in-Replay.is (replay_tells c.run_script.result.status _ _ _ _ _ c.run_script.ensures.answers)
 
 pub returns-in-Check-clause-tells : goal.returns-in-Check-clause-tells
-returns-in-Check-clause-tells g c = job_tells c.write_check.result _ _ _ _ _ _ _ c.in-Check.is (check_tells c.write_check.result _ _ _ _ _ c.write_check.ensures)
+returns-in-Check-clause-tells g c = job_tells c.write_check.result _ _ _ _ _ _ _ c.in-Check.is (check_tells c.write_check.result _ _ _ _ _ c.write_check.ensures.tells)
 
 pub returns-in-Lint-clause-tells : goal.returns-in-Lint-clause-tells
 returns-in-Lint-clause-tells g c =
-    job_tells c.write_certificates.result _ _ _ _ _ _ _ c.in-Lint.is (lint_tells c.write_certificates.result _ _ _ _ _ c.write_certificates.ensures)
+    job_tells c.write_certificates.result _ _ _ _ _ _ _ c.in-Lint.is (lint_tells c.write_certificates.result _ _ _ _ _ c.write_certificates.ensures.tells)
 
 pub returns-in-Summary-clause-tells : goal.returns-in-Summary-clause-tells
 returns-in-Summary-clause-tells g c = job_tells c.summarize.result.status _ _ _ _ _ _ _ c.in-Summary.is c.summarize.ensures.tells
 
 pub returns-in-Print-clause-tells : goal.returns-in-Print-clause-tells
-returns-in-Print-clause-tells g c = job_tells c.write_script.result _ _ _ _ _ _ _ c.in-Print.is (print_tells c.write_script.result _ _ _ _ _ c.write_script.ensures)
+returns-in-Print-clause-tells g c = job_tells c.write_script.result _ _ _ _ _ _ _ c.in-Print.is (print_tells c.write_script.result _ _ _ _ _ c.write_script.ensures.tells)
 
 pub returns-in-AtTick-clause-tells : goal.returns-in-AtTick-clause-tells
 returns-in-AtTick-clause-tells g c =

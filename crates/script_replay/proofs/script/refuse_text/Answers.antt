@@ -1,3 +1,4 @@
+use Rattle.std.proofs.Common.{refl}
 use Rattle.trace_runs.proofs.Writes.{no_part}
 use Rattle.script_replay.proofs.Asking.{refusal_tells}
 use Rattle.script_replay.proofs.script.refuse_text.Goals as goal
@@ -14,4 +15,4 @@ returns-in-ScriptLimit-clause-tells g c =
     λ job read is. refusal_tells c.meet_limit.result job _ read _ _ _ _ (rw c.in-ScriptLimit.is at is) c.meet_limit.ensures.tells
 
 pub returns-in-Memory-clause-tells : goal.returns-in-Memory-clause-tells
-returns-in-Memory-clause-tells g c = λ job read is. no_part _ _
+returns-in-Memory-clause-tells g c = λ job read is. (no_part _ _, refl)

@@ -15,11 +15,11 @@ pub returns-in-Err-Limit-clause-answers : goal.returns-in-Err-Limit-clause-answe
 returns-in-Err-Limit-clause-answers g c =
     let cut = rw c.in-Err-Limit.field-0-is at c.in-Err-Limit.ensures in
     rw c.status_of.ensures.status
-    (limit_said _ _ c.requires.opening _ _ _ _ _ _ _ cut.cut_off c.write_limit-wrote.result _ _ c.write_limit-wrote.ensures)
+    (limit_said _ _ c.requires.opening _ _ _ _ _ _ _ cut.cut_off c.write_limit-wrote.result _ _ c.write_limit-wrote.ensures.told)
 
 pub returns-in-Err-Memory-clause-answers : goal.returns-in-Err-Memory-clause-answers
 returns-in-Err-Memory-clause-answers g c =
-    let cut = rw c.in-Err-Memory.field-0-is at c.in-Err-Memory.ensures in memory_answers _ _ c.requires.opening _ 0 0 cut.cut_off
+    let cut = rw c.in-Err-Memory.field-0-is at c.in-Err-Memory.ensures in memory_answers _ _ c.requires.opening _ _ _ cut.cut_off
 
 pub returns-in-Err-WriteFault-clause-answers : goal.returns-in-Err-WriteFault-clause-answers
 returns-in-Err-WriteFault-clause-answers g c =

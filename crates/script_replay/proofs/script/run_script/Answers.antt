@@ -23,4 +23,4 @@ returns-in-Ok-clause-world g c =
     c.run_on-status.ensures.world
 
 pub returns-in-Err-clause-answers : goal.returns-in-Err-clause-answers
-returns-in-Err-clause-answers g c = rw c.without_page.ensures (memory_answers _ _ refl _ 0 0 (no_part _ _))
+returns-in-Err-clause-answers g c = rw c.without_page.ensures (memory_answers _ _ refl _ _ _ (no_part _ _, refl))

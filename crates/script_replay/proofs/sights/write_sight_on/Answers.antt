@@ -13,7 +13,7 @@ returns-in-Ok g c =
 pub returns-in-Err-Limit : goal.returns-in-Err-Limit
 returns-in-Err-Limit g c =
     let cut = rw c.in-Err-Limit.field-0-is at c.in-Err-Limit.ensures in
-    let told = rw c.in-Err-Limit.field-0-is at c.write_limit-wrote.ensures in
+    let told = rw c.in-Err-Limit.field-0-is at c.write_limit-wrote.ensures.told in
     rw c.status_of.ensures.status
     (limit_tells c.args.sight c.args.number c.args.script.now c.args.page.now.world c.requires c.write_limit-wrote.result _ _ _ _ _ _ _ _ _ _ _
     cut.says.cut_off told)

@@ -1,4 +1,5 @@
 use Rattle.std.proofs.Common.{◌≡◌, ◌<◌, ◌≤◌, ◌-◌, ◌∙◌, ◌++◌, ap, arith, drop, length, length-append, take}
+use Rattle.std.proofs.KnownBytes.{Consumes-trans}
 use Rattle.std.proofs.lemmas.Grind.{common_steps}
 use Rattle.std.proofs.lemmas.List.{take-append-le, take_all}
 use Rattle.script_source.proofs.Reading.{given_on, read_to_end, read_to_limit}
@@ -23,6 +24,13 @@ pieces-preserved g c =
       unfailed = c.in-Ok.ensures.only_by_failing ∙ c.pieces.invariant.unfailed;
       within = omega (arith, ap length fed, all);
     }
+
+pub returns-in_default-clause-at_most : goal.returns-in_default-clause-at_most
+returns-in_default-clause-at_most g c =
+    let text = c.pieces.script in
+    let piece = take c.in-Ok.given c.read.new.into in
+    let short : length piece ≤ 16777217 - length text = grind (arith, common_steps) in
+    (text ++ piece, Consumes-trans _ _ _ _ _ c.pieces.invariant.consumed c.in-Ok.ensures.bytes.0, omega (arith, length-append text piece, short, c.pieces.invariant.within))
 
 pub pieces-smaller : goal.pieces-smaller
 pieces-smaller g c =

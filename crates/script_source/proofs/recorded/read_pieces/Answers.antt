@@ -1,9 +1,9 @@
-use Rattle.std.proofs.Common.{[], ◌≡◌, ◌<◌, ◌≤◌, ◌+◌, ◌-◌, ◌∙◌, ◌++◌, ap, arith, drop, length, take}
+use Rattle.std.proofs.Common.{◌≡◌, ◌<◌, ◌≤◌, ◌-◌, ◌∙◌, ◌++◌, ap, arith, drop, length, take}
 use Rattle.std.proofs.KnownBytes.{Consumes-nil}
 use Rattle.std.proofs.lemmas.Grind.{common_steps}
 use Rattle.std.proofs.lemmas.List.{take-append-le}
 use Rattle.script_source.specs.Recorded.{Divided, has_feed}
-use Rattle.script_source.proofs.Feeding.{divided_all, end_all, passed, taking_more, taking_none}
+use Rattle.script_source.proofs.Feeding.{divided_all, end_all, passed, takes_at_most, taking_more, taking_none}
 use Rattle.script_source.proofs.Reading.{given_on}
 use Rattle.script_source.proofs.recorded.read_pieces.Goals as goal
 
@@ -33,6 +33,12 @@ pieces-preserved g c =
     let given : piece ≡ take c.in-Ok.given c.read.new.into = take-append-le _ _ _ c.in-Ok.ensures.within.0 in
     taking_more _ _ _ _ _ here _ _ piece _ (given_on _ _ _ _ _ _ here.consumed c.in-Ok.ensures.bytes.0 (ap (λ bytes. here.fed ++ bytes) given))
     c.in-Ok.ensures.only_by_failing c.in-Ok-take.ensures.within c.in-Ok-take.ensures.held (λ fed. c.in-Ok-take.ensures.fed _ fed)
+
+pub returns-in_default-clause-at_most : goal.returns-in_default-clause-at_most
+returns-in_default-clause-at_most g c =
+    let piece = take c.in-Ok.given c.read.new.into in
+    let short : length piece ≤ 67108865 - c.pieces.it.bytes = grind (arith, common_steps) in
+    takes_at_most _ _ _ _ _ c.pieces.invariant _ piece short c.in-Ok.ensures.bytes.0
 
 pub returns-clause-fault : goal.returns-clause-fault
 returns-clause-fault g c =

@@ -1,4 +1,5 @@
 use Rattle.std.proofs.Common.{◌≤◌, arith, length, subst, ℕ, List}
+use Rattle.run_replies.proofs.Telling.{unfailed}
 use Rattle.stream_replay.specs.StreamReplies.{IsolatesPages}
 use Rattle.stream_replay.proofs.PagesAsked.{pages_end_past, pages_taken, alone_end, past_alone}
 use Rattle.stream_replay.proofs.side_by_side.run_pages.Goals as goal
@@ -12,6 +13,16 @@ pub returns-in-Err-TooLong-clause-ends : goal.returns-in-Err-TooLong-clause-ends
 returns-in-Err-TooLong-clause-ends g c =
     let cause = rw c.in-Err-TooLong.field-0-is at c.in-Err-TooLong.ensures.fault in
     pages_end_past c.meet_limit.result _ _ c.in-Err-TooLong.feeds _ _ _ _ cause.2 c.meet_limit.ensures.tells
+
+pub returns-in-Ok-clause-unfailed_write : goal.returns-in-Ok-clause-unfailed_write
+returns-in-Ok-clause-unfailed_write g c = unfailed c.run_bytes.result _ _ _ _ _ c.run_bytes.ensures.tells
+
+pub returns-in-Err-TooLong-clause-unfailed_read : goal.returns-in-Err-TooLong-clause-unfailed_read
+returns-in-Err-TooLong-clause-unfailed_read g c =
+    let cause = rw c.in-Err-TooLong.field-0-is at c.in-Err-TooLong.ensures.fault in λ other. cause.1
+
+pub returns-in-Err-TooLong-clause-unfailed_write : goal.returns-in-Err-TooLong-clause-unfailed_write
+returns-in-Err-TooLong-clause-unfailed_write g c = unfailed c.meet_limit.result _ _ _ _ _ c.meet_limit.ensures.tells
 
 pub returns-in-Ok-clause-alone : goal.returns-in-Ok-clause-alone
 returns-in-Ok-clause-alone g c =

@@ -35,7 +35,7 @@ returns-in-Ok-write_limit-clause-lines g c =
     let going : c.args.running.now.is_stopped ≡ false = goes_on c.args.running.now.is_stopped _ c.requires.begins in
     rw going
     (limit_lines c.args.line c.args.running.now.script.items c.args.running.now.next c.args.running.now.page.world _ (begun_too _ _ c.requires.begins) at c.in-Err-Limit.kind c.in-Err-Limit.line c.in-Err-Limit.number
-    c.args.gathered.now.taken c.run_item.new.sink.taken c.write_limit.new.sink.taken _ _ c.requires.empty cut.says.cut_off c.in-Ok-write_limit.ensures.0)
+    c.args.gathered.now.taken c.run_item.new.sink.taken c.write_limit.new.sink.taken _ _ c.requires.empty cut.says.cut_off c.in-Ok-write_limit.ensures.told.0)
 
 pub returns-in-Ok-write_limit-clause-standing : goal.returns-in-Ok-write_limit-clause-standing
 returns-in-Ok-write_limit-clause-standing g c =
