@@ -1,6 +1,6 @@
 //! One observer with its registrations and its queue.
 
-ghost use Rattle.std.specs.Prelude.{◌≡◌, ◌∷◌, ◌++◌, [], false, true, None, IfSome, map, option_map, length, Ok, OnOk, OnErr};
+ghost use Rattle.std.specs.Prelude.{◌≡◌, ◌-◌, slice_get, ◌∷◌, ◌++◌, [], false, true, None, IfSome, map, option_map, length, Ok, OnOk, OnErr};
 ghost use Rattle.page_model.specs.World.{Registration};
 ghost use Rattle.page_model.specs.IntersectionObserving.{is_registered};
 ghost use Rattle.page_model.specs.Intersections.{is_news};
@@ -113,6 +113,7 @@ impl Watcher {
 
     // Returns the target of the last registration.
     pub(crate) fn last_target(&self) -> Option<NodeId>
+        ensures last { option_map (λ (target : NodeId). target.0) result ≡ option_map (λ (it : Registration). it.target) (slice_get self.now.registrations (length self.now.registrations - 1)) }
         ensures some { IfSome result (λ target. is_registered target.0 self.now.registrations ≡ true) }
         ensures none { result ≡ None → self.now.registrations ≡ [] }
     {

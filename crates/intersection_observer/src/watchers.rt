@@ -1,6 +1,6 @@
 //! The observers of a page.
 
-ghost use Rattle.std.specs.Prelude.{◌≡◌, ◌<◌, ◌≤◌, ◌+◌, ◌-◌, All, ◌^◌, true, [], length, map, not, option_map, Ok, Err, IfOk, OnOk, OnErr, IfSome, Some, None};
+ghost use Rattle.std.specs.Prelude.{◌≡◌, ◌<◌, ◌≤◌, ◌+◌, ◌-◌, slice_get, All, ◌^◌, true, [], length, map, not, option_map, Ok, Err, IfOk, OnOk, OnErr, IfSome, Some, None};
 ghost use Rattle.page_model.specs.World.{Registration};
 ghost use Rattle.page_model.specs.IntersectionObserving.{is_registered, with_intersection_observer, without_registration, without_registrations, without_queue};
 ghost use Rattle.intersection_observer.specs.Seen.{seen_root, seen_finding, serial_numbers};
@@ -208,6 +208,8 @@ impl Watchers {
     /// Returns a target of the observer, the one observed most recently; `None` exactly when it observes none.
     pub fn last_target(&self, watcher: WatcherId) -> Option<NodeId>
         requires { watcher.0 < length self.now.part.made }
+        ensures last { let registrations = (watcher_at self.now watcher.0).registrations in
+            option_map (λ (target : NodeId). target.0) result ≡ option_map (λ (it : Registration). it.target) (slice_get registrations (length registrations - 1)) }
         ensures some { IfSome result (λ target. is_registered target.0 (watcher_at self.now watcher.0).registrations ≡ true) }
         ensures none { result ≡ None → (watcher_at self.now watcher.0).registrations ≡ [] }
     {
