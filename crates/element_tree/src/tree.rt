@@ -115,6 +115,7 @@ impl<P> Tree<P> {
         ensures empty { result.nodes ≡ [] }
         ensures most_nodes { result.most_nodes ≡ most_nodes }
         ensures most_depth { result.most_depth ≡ most_depth }
+        ensures unready { result.ready ≡ false }
     {
         Tree {
             slots: Slab::new(alloc),
@@ -135,6 +136,7 @@ impl<P> Tree<P> {
         ensures kept { self.old.ready ≡ true → self.new.ready ≡ true }
         ensures same { self.new ≡ record self.old { ready = self.new.ready } }
         ensures full { length self.old.nodes ≡ self.old.most_nodes → result ≡ Err TreeFault.NodeLimit }
+        ensures limit { length self.old.nodes ≡ self.old.most_nodes → self.new ≡ self.old }
         ensures refused { IfErr result (IsAddFault self.old) }
         ensures found { length self.old.nodes ≢ self.old.most_nodes → self.old.ready ≡ true → IsOk result }
     {
@@ -162,6 +164,7 @@ impl<P> Tree<P> {
         ensures kept { OnErr result (self.old.ready ≡ true → self.new.ready ≡ true) }
         ensures returned { IfErr result (λ refused. refused.1 ≡ payload) }
         ensures full { length self.old.nodes ≡ self.old.most_nodes → IsErr result }
+        ensures limit { length self.old.nodes ≡ self.old.most_nodes → self.new ≡ self.old }
         ensures refused { IfErr result (λ refused. IsAddFault self.old refused.0) }
         ensures found { length self.old.nodes ≢ self.old.most_nodes → self.old.ready ≡ true → IsOk result }
     {

@@ -1,4 +1,8 @@
-ghost use Rattle.std.specs.Prelude.{◌≡◌};
+ghost use Rattle.std.specs.Prelude.{◌≡◌, ◌<◌, ◌≤◌, length, OnOk, OnErr, IfOk};
+ghost use Rattle.text_io.specs.Memory.{next_count};
+ghost use Rattle.std.specs.Io.KnownBytes.{ReadConsumes, WriteAppends};
+ghost use Rattle.std.specs.Io.{ReadsAtMost};
+ghost use Rattle.text_io.specs.Streams.{Rose};
 
 use crate::streams::{Failed, Sink, Source};
 use std::io::{Read, Write};
@@ -34,7 +38,15 @@ impl<R: Read> Source for StdSource<R> {
 
     ghost faults = { λ s. s.faults };
 
-    fn read(&mut self, into: &mut [u8]) -> Result<usize, Failed> {
+    fn read(&mut self, into: &mut [u8]) -> Result<usize, Failed>
+        requires { 0 < length into.old }
+        ensures counted { OnErr result (self.new.faults ≡ next_count self.old.faults) }
+        ensures within { ReadsAtMost result into.new }
+        ensures bytes { ReadConsumes self.old.left self.new.left result into.new }
+        ensures failed { OnErr result (Rose self.old.faults self.new.faults) }
+        ensures only_by_failing { OnOk result (self.new.faults ≡ self.old.faults) }
+        ensures never_falls { self.old.faults ≤ self.new.faults }
+    {
         match self.inner.read(into) {
             Ok(count) => Ok(count),
             Err(_) => {
@@ -75,7 +87,16 @@ impl<W: Write> Sink for StdSink<W> {
 
     ghost faults = { λ s. s.faults };
 
-    fn write(&mut self, piece: &[u8]) -> Result<usize, Failed> {
+    fn write(&mut self, piece: &[u8]) -> Result<usize, Failed>
+        requires { 0 < length piece.now }
+        ensures counted { OnErr result (self.new.faults ≡ next_count self.old.faults) }
+        ensures some { IfOk result (λ n. 0 < n) }
+        ensures within { IfOk result (λ n. n ≤ length piece.now) }
+        ensures bytes { WriteAppends self.old.taken self.new.taken result piece.now }
+        ensures failed { OnErr result (Rose self.old.faults self.new.faults) }
+        ensures only_by_failing { OnOk result (self.new.faults ≡ self.old.faults) }
+        ensures never_falls { self.old.faults ≤ self.new.faults }
+    {
         match self.inner.write(piece) {
             Ok(count) if count > 0 => Ok(count),
             _ => {
