@@ -3,13 +3,14 @@ use Rattle.std.proofs.Common.{◌≡◌, ℕ, ◌+◌, ◌-◌, ◌<◌, ◌≤�
 use Rattle.std.specs.Prelude.{map, reverse}
 use Rattle.std.specs.List.{All}
 use Rattle.std.proofs.lemmas.Bool.{eqb-true, eqb-false}
-use Rattle.std.proofs.lemmas.List.{reverse-reverse, map_push, length-map, take_rest, take-take, drop_all}
+use Rattle.std.proofs.lemmas.List.{reverse-reverse, map_push, length-map, take_rest, take-take, take-append-drop, drop_all, flat_map_more}
+use Rattle.std.proofs.Math.Seq.{take-length}
 use Rattle.std.proofs.lemmas.List.Elements.{All-nil, All-push, All-same, All-weaker}
 use Rattle.std.proofs.lemmas.List.Sums.{count_by_more_yes}
 use Rattle.script_model.specs.Lexing.{Scan, Word, Lexed, Line as LineOfWords, line_start, line_before, add_line}
 use Rattle.script_lexer.specs.declared.places.Span.{Span}
 use Rattle.script_lexer.specs.declared.places.Line.{Line}
-use Rattle.script_lexer.specs.Texts.{part, word_seen, after_of, line_words, line_seen, InLine, feeds_before, BeginsLine, LineFits}
+use Rattle.script_lexer.specs.Texts.{part, word_seen, after_of, line_words, words_of, line_seen, InLine, feeds_before, BeginsLine, LineFits}
 use Rattle.script_lexer.specs.Places.{Places, closed_from, closed, line_kept, next_line_at, scan_seen, kept_seen, behind, Sound}
 use Rattle.script_lexer.proofs.Parts.{part_none}
 
@@ -95,6 +96,25 @@ fits_in bytes at p false s = All-push (LineFits bytes p.words) p.lines (ended_li
 pub kept_fit : (bytes : List ℕ) (at : ℕ) (p : Places) → Sound bytes at p → All (LineFits bytes (line_kept p).words) (line_kept p).lines
 kept_fit bytes at p s = fits_in bytes at p (p.first == length p.words) s
 
+-- each word so far is a word of a line
+laid_in : (p : Places) (c : Bool) → (p.first == length p.words) ≡ c → words_of p.words p.lines ≡ take p.first p.words
+    → words_of p.words (cond c p (record p { lines = p.lines ++ ended_line p ∷ [] })).lines ≡ p.words
+laid_in p true is laid = laid ∙ ap (λ (n : ℕ). take n p.words) (eqb-true p.first (length p.words) is) ∙ take-length p.words
+laid_in p false is laid =
+    sym (flat_map_more (line_words p.words) [] p.lines (ended_line p))
+    ∙ ap (λ (ws : List Span). ws ++ line_words p.words (ended_line p)) laid
+    ∙ ap (λ (ws : List Span). take p.first p.words ++ ws) (take_rest p.words p.first)
+    ∙ take-append-drop p.first p.words
+
+laid_words : (p : Places) (c : Bool) → words_of p.words (cond c p (record p { lines = p.lines ++ ended_line p ∷ [] })).lines ≡ p.words
+    → (cond c p (record p { lines = p.lines ++ ended_line p ∷ [] })).words
+    ≡ words_of (cond c p (record p { lines = p.lines ++ ended_line p ∷ [] })).words (cond c p (record p { lines = p.lines ++ ended_line p ∷ [] })).lines
+laid_words p true laid = sym laid
+laid_words p false laid = sym laid
+
+pub kept_laid : (bytes : List ℕ) (at : ℕ) (p : Places) → Sound bytes at p → (line_kept p).words ≡ words_of (line_kept p).words (line_kept p).lines
+kept_laid bytes at p s = laid_words p (p.first == length p.words) (laid_in p (p.first == length p.words) refl s.laid)
+
 abbrev start_scan : List ℕ → ℕ → ℕ → ℕ → List ℕ → List Span → Scan
 start_scan bytes number start column line spans = record {
   number = number;
@@ -146,8 +166,9 @@ fed_more bytes at ended within feed fed =
 
 sound_in : (bytes : List ℕ) (at : ℕ) (p : Places) (c : Bool) → at < length bytes → get_or bytes at 0 ≡ 10 → Sound bytes at (record p { open_word = None })
     → All (LineFits bytes p.words) (cond c (record p { open_word = None }) (record p { open_word = None; lines = p.lines ++ ended_line p ∷ [] })).lines
+    → words_of p.words (cond c (record p { open_word = None }) (record p { open_word = None; lines = p.lines ++ ended_line p ∷ [] })).lines ≡ p.words
     → Sound bytes (at + 1) (next_line_at at (cond c (record p { open_word = None }) (record p { open_word = None; lines = p.lines ++ ended_line p ∷ [] })))
-sound_in bytes at p true within feed s fit = record {
+sound_in bytes at p true within feed s fit laid = record {
   inside = omega arith;
   start_before = omega arith;
   first_within = omega arith;
@@ -159,8 +180,9 @@ sound_in bytes at p true within feed s fit = record {
   after_within = omega (arith, after_none at p.words);
   spans_within = All-same (InLine (at + 1) (at + 1)) (drop (length p.words) p.words) [] (drop_all (length p.words) p.words (omega arith)) (All-nil (InLine (at + 1) (at + 1)));
   lines_fit = fit;
+  laid = laid ∙ sym (take-length p.words);
 }
-sound_in bytes at p false within feed s fit = record {
+sound_in bytes at p false within feed s fit laid = record {
   inside = omega arith;
   start_before = omega arith;
   first_within = omega arith;
@@ -172,6 +194,7 @@ sound_in bytes at p false within feed s fit = record {
   after_within = omega (arith, after_none at p.words);
   spans_within = All-same (InLine (at + 1) (at + 1)) (drop (length p.words) p.words) [] (drop_all (length p.words) p.words (omega arith)) (All-nil (InLine (at + 1) (at + 1)));
   lines_fit = fit;
+  laid = laid ∙ sym (take-length p.words);
 }
 
 fit_words : (bytes : List ℕ) (p : Places) (c : Bool) → All (LineFits bytes (cond c p (record p { lines = p.lines ++ ended_line p ∷ [] })).words) (cond c p (record p { lines = p.lines ++ ended_line p ∷ [] })).lines
@@ -183,6 +206,7 @@ pub sound_next : (bytes : List ℕ) (at : ℕ) (p : Places) → at < length byte
 sound_next bytes at p within feed s =
     sound_in bytes at p (p.first == length p.words) within feed s
     (fit_words bytes (record p { open_word = None }) (p.first == length p.words) (fits_in bytes at (record p { open_word = None }) (p.first == length p.words) s))
+    (laid_in (record p { open_word = None }) (p.first == length p.words) refl s.laid)
 
 feed_in : (bytes : List ℕ) (at : ℕ) (p : Places) (w : Option ℕ) → at < length bytes → get_or bytes at 0 ≡ 10 → Sound bytes at (closed_from w at (record p { open_word = w }))
     → Sound bytes (at + 1) (next_line_at at (line_kept (closed_from w at (record p { open_word = w }))))

@@ -2,8 +2,9 @@
 use Rattle.std.proofs.Common.{◌≡◌, ℕ, ◌+◌, ◌-◌, List, get_or, ap, sym, subst, ◌∙◌, arith, Some, None}
 use Rattle.script_model.specs.Lexing.{Ending, BadByte, LongLine, LineFeedByte, LongByte, SpaceByte, WordByte, ForbiddenByte, ends}
 use Rattle.script_lexer.specs.declared.places.LexFault.{LexFault}
-use Rattle.script_lexer.specs.Texts.{fault_seen, lines_before}
+use Rattle.script_lexer.specs.Texts.{words_of, fault_seen, lines_before}
 use Rattle.script_lexer.specs.Places.{Places, closed, line_kept, next_line_at, begun, kept_seen, behind, to_come, class_at, Sound, WentOn, Looked}
+use Rattle.script_lexer.proofs.Parts.{first_taken}
 use Rattle.script_lexer.proofs.Wholes.{after_space, after_word, after_feed, sound_space, sound_word, sound_end, at_long, at_bad}
 
 -- the places behind it are those of a text that went on
@@ -35,6 +36,7 @@ ends_at most text at p fault ending s is line whole = (
   omega (arith, s.start_before, s.inside),
   ap (λ (e : Ending). behind (kept_seen text p) (ends e)) is ∙ whole,
   ap lines_before is ∙ line,
+  first_taken p.first p.words (words_of p.words p.lines) s.first_within s.laid,
 )
 
 pub long_looked : (most : ℕ) (bytes : List ℕ) (at : ℕ) (p : Places) (fault : LexFault) → class_at most bytes at p ≡ LongByte → fault_seen fault ≡ LongLine (p.ended + 1) → Looked most bytes at p p (Some fault)

@@ -1,13 +1,14 @@
 -- Parts of a text, one byte longer, and words of lines when further words stand behind them.
-use Rattle.std.proofs.Common.{◌≡◌, ℕ, ◌+◌, ◌-◌, ◌<◌, ◌≤◌, List, [], ◌∷◌, ◌++◌, length, take, drop, get_or, refl, ap, ◌∙◌, arith, length-append, length-drop}
+use Rattle.std.proofs.Common.{◌≡◌, ℕ, ◌+◌, ◌-◌, ◌<◌, ◌≤◌, List, [], ◌∷◌, ◌++◌, length, take, drop, get_or, refl, ap, sym, ◌∙◌, arith, length-append, length-drop}
 use Rattle.std.specs.Prelude.{map, reverse, false}
 use Rattle.std.specs.List.{All}
 use Rattle.std.proofs.lemmas.List.{length-take-le, length-reverse, get_or-drop, take_more, reverse-append, take-append-le, drop-append-le}
 use Rattle.std.proofs.lemmas.List.Elements.{All-head, All-tail, All-weaker, All-same}
+use Rattle.std.proofs.Math.Seq.{take-length}
 use Rattle.script_model.specs.Readers.{is_empty}
 use Rattle.script_lexer.specs.declared.places.Span.{Span}
 use Rattle.script_lexer.specs.declared.places.Line.{Line}
-use Rattle.script_lexer.specs.Texts.{part, word_seen, after_of, line_words, line_seen, InLine, LineFits}
+use Rattle.script_lexer.specs.Texts.{part, word_seen, after_of, line_words, words_of, line_seen, InLine, LineFits}
 
 pub part_none : (at : ℕ) (bytes : List ℕ) → part at at bytes ≡ []
 part_none at bytes = let none : at - at ≡ 0 = omega arith in ap (λ (n : ℕ). take n (drop at bytes)) none
@@ -67,3 +68,21 @@ lines_stay bytes words more (line ∷ lines) fit =
     let first = line_stays bytes words more line here.counted in
     let rest = lines_stay bytes words more lines (All-tail (LineFits bytes words) line lines fit) in
     cc (first, rest)
+
+-- the words of all lines stay the same
+pub all_stay : (bytes : List ℕ) (words more : List Span) (lines : List Line) → All (LineFits bytes words) lines → words_of (words ++ more) lines ≡ words_of words lines
+all_stay bytes words more [] fit = refl
+all_stay bytes words more (line ∷ lines) fit =
+    let here : LineFits bytes words line = All-head (LineFits bytes words) line lines fit in
+    ap (λ (ws : List Span). ws ++ words_of (words ++ more) lines) (words_stay words more line here.counted)
+    ∙ ap (λ (ws : List Span). line_words words line ++ ws) (all_stay bytes words more lines (All-tail (LineFits bytes words) line lines fit))
+
+-- the first of these words, as many as they are
+pub first_taken : (count : ℕ) (words first : List Span) → count ≤ length words → first ≡ take count words → take (length first) words ≡ first
+first_taken count words first within is =
+    let long : length first ≡ count = ap length is ∙ length-take-le count words within in
+    ap (λ (n : ℕ). take n words) long ∙ sym is
+
+-- all of them are the first
+pub all_taken : (words first : List Span) → words ≡ first → take (length first) words ≡ first
+all_taken words first is = first_taken (length words) words first (omega arith) (sym is ∙ sym (take-length words))

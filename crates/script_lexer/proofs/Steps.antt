@@ -2,7 +2,7 @@
 use Rattle.std.proofs.Common.{◌≡◌, ℕ, ◌+◌, ◌-◌, ◌<◌, ◌≤◌, ◌&&◌, ◌==◌, Bool, true, false, cond, List, [], ◌∷◌, ◌++◌, length, drop, get_or, refl, ap, sym, ◌∙◌, arith, length-append, Option, Some, None}
 use Rattle.std.specs.Prelude.{map, reverse}
 use Rattle.std.specs.List.{All}
-use Rattle.std.proofs.lemmas.List.{reverse-reverse, drop-append-le, map_push}
+use Rattle.std.proofs.lemmas.List.{reverse-reverse, take-append-le, drop-append-le, map_push}
 use Rattle.std.proofs.lemmas.List.Elements.{All-push, All-same, All-weaker}
 use Rattle.std.proofs.lemmas.List.Sums.{fold-append, count_by_more_no}
 use Rattle.script_model.specs.Readers.{is_empty}
@@ -10,7 +10,7 @@ use Rattle.script_model.specs.Lexing.{Scan, Word, word_closed, close_word, passe
 use Rattle.script_lexer.specs.declared.places.Span.{Span}
 use Rattle.script_lexer.specs.Texts.{part, word_seen, after_of, InLine, LineFits}
 use Rattle.script_lexer.specs.Places.{Places, closed_from, begun_in, begun, scan_seen, kept_seen, OpenIn, Sound}
-use Rattle.script_lexer.proofs.Parts.{part_none, back_more, back_length, not_empty, fit_stay, lines_stay}
+use Rattle.script_lexer.proofs.Parts.{part_none, back_more, back_length, not_empty, fit_stay, lines_stay, all_stay}
 
 abbrev word_with : ℕ → List ℕ → Word
 word_with column text = record { column = column; text = text }
@@ -116,6 +116,7 @@ sound_closed bytes at p (Some from) s =
       spans_within = All-same (InLine p.start at) (drop p.first (p.words ++ span_of from at ∷ [])) (drop p.first p.words ++ span_of from at ∷ []) (drop-append-le p.first p.words (span_of from at ∷ []) s.first_within)
           (All-push (InLine p.start at) (drop p.first p.words) (span_of from at) s.spans_within (low, high, end));
       lines_fit = fit_stay bytes p.words (span_of from at ∷ []) p.lines s.lines_fit;
+      laid = all_stay bytes p.words (span_of from at ∷ []) p.lines s.lines_fit ∙ s.laid ∙ sym (take-append-le p.first p.words (span_of from at ∷ []) s.first_within);
     }
 
 later_open : (start at : ℕ) (comment : Bool) (w : Option ℕ) → OpenIn start at comment w → OpenIn start (at + 1) comment w
@@ -138,6 +139,7 @@ sound_later bytes at p within no_feed s = record {
   after_within = omega (arith, s.after_within);
   spans_within = All-weaker (InLine p.start at) (InLine p.start (at + 1)) (later_span p.start at) (drop p.first p.words) s.spans_within;
   lines_fit = s.lines_fit;
+  laid = s.laid;
 }
 
 and_false : (b : Bool) → (b && false) ≡ false
@@ -189,6 +191,7 @@ sound_begins bytes at p true within s start = record {
   after_within = s.after_within;
   spans_within = s.spans_within;
   lines_fit = s.lines_fit;
+  laid = s.laid;
 }
 sound_begins bytes at p false within s start =
     let here : at < at + 1 = omega arith in record {
@@ -203,6 +206,7 @@ sound_begins bytes at p false within s start =
       after_within = s.after_within;
       spans_within = s.spans_within;
       lines_fit = s.lines_fit;
+      laid = s.laid;
     }
 
 pub sound_begun : (bytes : List ℕ) (at : ℕ) (p : Places) (comment : Bool) (w : Option ℕ) → at < length bytes → (get_or bytes at 0 == 10) ≡ false → Sound bytes at (record p { open_word = w; in_comment = comment })

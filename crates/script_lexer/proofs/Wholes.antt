@@ -8,11 +8,12 @@ use Rattle.script_model.specs.Lexing.{Scan, Lexed, Line as LineOfWords, Whole, B
 use Rattle.script_model.specs.Lexing.{Ending}
 use Rattle.script_lexer.specs.declared.places.LexFault.{LexFault}
 use Rattle.script_lexer.specs.declared.places.Span.{Span}
-use Rattle.script_lexer.specs.Texts.{InLine, LineFits, fault_seen, lines_before}
+use Rattle.script_lexer.specs.Texts.{InLine, LineFits, words_of, fault_seen, lines_before}
 use Rattle.script_lexer.specs.Limited.{class_within, lex_within, lexed_within}
 use Rattle.script_lexer.specs.Places.{Places, no_places, closed_from, closed, line_kept, next_line_at, begun, scan_seen, kept_seen, behind, to_come, class_at, Sound, WentOn, Scanned, lines_up_to}
+use Rattle.script_lexer.proofs.Parts.{all_taken}
 use Rattle.script_lexer.proofs.Steps.{closed_seen, closed_passed, closed_kept, sound_closed, sound_later, begun_seen, begun_kept, sound_begun}
-use Rattle.script_lexer.proofs.Ends.{line_added, next_closed, next_kept, sound_feed, kept_fit, ended_line}
+use Rattle.script_lexer.proofs.Ends.{line_added, next_closed, next_kept, sound_feed, kept_fit, kept_laid, ended_line}
 
 -- how the text goes on behind a place
 abbrev on_at : ℕ → List ℕ → ℕ → Scan → Lexed
@@ -134,6 +135,7 @@ blank_sound bytes = record {
   after_within = omega arith;
   spans_within = All-nil (InLine 0 0);
   lines_fit = All-nil (LineFits bytes []);
+  laid = refl;
 }
 
 pub blank_whole : (most : ℕ) (bytes : List ℕ) → to_come most bytes 0 no_places ≡ lexed_within most bytes
@@ -199,12 +201,16 @@ end_scanned most bytes p s whole =
     let is : lexed_as (kept_seen bytes (line_kept (closed (length bytes) p))) (Whole (lines_up_to None (length bytes) (line_kept (closed (length bytes) p)) + 1)) ≡ lexed_within most bytes =
     ap (λ (n : ℕ). lexed_as (kept_seen bytes (line_kept (closed (length bytes) p))) (Whole n)) count
     ∙ sym (ended_whole (kept_seen bytes (line_kept (closed (length bytes) p))) (Whole (next_line (scan_seen bytes (length bytes) p))))
-    ∙ sym (end_whole most bytes p s) ∙ whole in record {
+    ∙ sym (end_whole most bytes p s) ∙ whole in
+    let q : Places = line_kept (closed (length bytes) p) in
+    let all : q.words ≡ words_of q.words q.lines = kept_laid bytes (length bytes) (closed (length bytes) p) (sound_closed bytes (length bytes) p p.open_word s) in record {
       lines_fit = kept_fit bytes (length bytes) (closed (length bytes) p) (sound_closed bytes (length bytes) p p.open_word s);
       ended_before = omega (arith, q_start, q_ended, s.ended_before);
       start_before = omega (arith, q_start, s.start_before);
       whole = is;
       counted = ap (λ (l : Lexed). lines_before l.ending) (sym is) ∙ omega arith;
+      begin = all_taken q.words (words_of q.words q.lines) all;
+      all = λ _. all;
     }
 
 pub fault_scanned : (most : ℕ) (bytes : List ℕ) (at : ℕ) (p : Places) (fault : LexFault) → WentOn most bytes at p (Some fault) (lexed_within most bytes) → Scanned most bytes p (Some fault)
@@ -215,6 +221,8 @@ fault_scanned most bytes at p fault went =
       start_before = went.2;
       whole = is;
       counted = ap (λ (l : Lexed). lines_before l.ending) (sym is) ∙ went.4;
+      begin = went.5;
+      all = λ none. absurd cc;
     }
 
 -- a line that has a word has a byte

@@ -4,7 +4,7 @@ use Rattle.std.specs.List.{All}
 use Rattle.word_model.specs.Numbers.{begins_with}
 use Rattle.script_model.specs.Lexing.{Scan, Lexed, Line as LineOfWords, ByteClass, ends}
 use Rattle.script_lexer.specs.Limited.{class_within, lex_within, lexed_within}
-use Rattle.script_lexer.specs.Texts.{part, word_seen, after_of, line_seen, InLine, feeds_before, BeginsLine, LineFits, fault_seen, ending_seen, lines_before}
+use Rattle.script_lexer.specs.Texts.{part, word_seen, after_of, words_of, line_seen, InLine, feeds_before, BeginsLine, LineFits, fault_seen, ending_seen, lines_before}
 use Rattle.script_lexer.specs.declared.places.Span.{Span}
 use Rattle.script_lexer.specs.declared.places.Line.{Line}
 use Rattle.script_lexer.specs.declared.places.LexFault.{LexFault}
@@ -94,6 +94,7 @@ pub record Sound (bytes : List ℕ) (at : ℕ) (p : Places) : Type 0 where
   pub after_within : after_of p.start (drop p.first p.words) + p.start ≤ at + 1
   pub spans_within : All (InLine p.start at) (drop p.first p.words)
   pub lines_fit : All (LineFits bytes p.words) p.lines
+  pub laid : words_of p.words p.lines ≡ take p.first p.words
 
 -- the text goes on, or ends here with a fault
 abbrev pub WentOn : ℕ → List ℕ → ℕ → Places → Option LexFault → Lexed → Type 0
@@ -101,6 +102,7 @@ WentOn most_line bytes at p None whole = (Sound bytes at p) × (to_come most_lin
 WentOn most_line bytes at p (Some fault) whole =
     (All (LineFits bytes p.words) p.lines) × (p.ended ≤ p.start) × (p.start ≤ length bytes)
     × (behind (kept_seen bytes p) (ends (fault_seen fault)) ≡ whole) × (lines_before (fault_seen fault) ≡ p.ended)
+    × (take (length (words_of p.words p.lines)) p.words ≡ words_of p.words p.lines)
 
 -- the role of the byte at a place
 abbrev pub class_at : ℕ → List ℕ → ℕ → Places → ByteClass
@@ -145,3 +147,5 @@ pub record Scanned (most_line : ℕ) (bytes : List ℕ) (p : Places) (fault : Op
   pub start_before : p.start ≤ length bytes
   pub whole : record { lines = kept_seen bytes p; ending = ending_seen fault (lines_up_to fault (length bytes) p) } ≡ lexed_within most_line bytes
   pub counted : lines_before (lexed_within most_line bytes).ending ≡ lines_up_to fault (length bytes) p
+  pub begin : take (length (words_of p.words p.lines)) p.words ≡ words_of p.words p.lines
+  pub all : fault ≡ None → p.words ≡ words_of p.words p.lines

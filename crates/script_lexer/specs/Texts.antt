@@ -1,6 +1,6 @@
 -- What places in a text stand for: the words between them.
 use Rattle.std.specs.Prelude.{◌≡◌, ℕ, ◌+◌, ◌-◌, ◌<◌, ◌≤◌, ◌==◌, List, length, take, drop, map, slice_index, Option, Some, None}
-use Rattle.std.specs.List.{All, fold, count_by}
+use Rattle.std.specs.List.{All, fold, count_by, flat_map}
 use Rattle.script_model.specs.Lexing.{Word, Line as LineOfWords, Ending, Whole, BadByte as BadByteAt, LongLine, Lexed}
 use Rattle.script_lexer.specs.declared.places.Span.{Span}
 use Rattle.script_lexer.specs.declared.places.Line.{Line}
@@ -30,6 +30,10 @@ after_of start spans = fold (λ before span. span.to - start + 1) 1 spans
 -- the words of a line
 abbrev pub line_words : List Span → Line → List Span
 line_words words line = take line.count (drop line.first words)
+
+-- the words of all these lines, in order
+abbrev pub words_of : List Span → List Line → List Span
+words_of words lines = flat_map (line_words words) lines
 
 abbrev pub line_seen : List ℕ → List Span → Line → LineOfWords
 line_seen bytes words line = record {

@@ -1,9 +1,9 @@
-ghost use Rattle.std.specs.Prelude.{◌≡◌, ◌<◌, ◌+◌, ◌-◌, ◌^◌, ◌++◌, [], length, IfOk, OnOk, OnErr};
+ghost use Rattle.std.specs.Prelude.{◌≡◌, ◌<◌, ◌+◌, ◌-◌, ◌^◌, ◌++◌, [], None, length, take, IfOk, OnOk, OnErr};
 ghost use Rattle.text_io.specs.declared.kinds.LimitKind.TheVariants as limits;
 ghost use Rattle.text_io.specs.Limits.{common_limit};
 ghost use Rattle.script_model.specs.Lexing.{lexed};
 ghost use Rattle.script_lexer.specs.Limited.{lexed_within};
-ghost use Rattle.script_lexer.specs.Texts.{text_seen, lines_before};
+ghost use Rattle.script_lexer.specs.Texts.{text_seen, words_of, lines_before};
 
 use crate::places::LexFault;
 use crate::scan::{Scanner, settled};
@@ -75,6 +75,7 @@ impl Lexer {
     }
 
     /// Returns the text that was fed with its lines and words, up to its first fault; no byte after that is looked at.
+    /// Its words are those of its lines, in order; with a fault, words before it in its line may stand behind them.
     ///
     /// # Errors
     /// If an allocation fails.
@@ -82,6 +83,8 @@ impl Lexer {
     pub fn finish(self) -> Result<Text, AllocError>
         ensures bytes { IfOk result (λ text. text.bytes ≡ self.text) }
         ensures places { IfOk result (λ text. text_seen text ≡ lexed_within self.most_line self.text) }
+        ensures in_order { IfOk result (λ text. take (length (words_of text.words text.lines)) text.words ≡ words_of text.words text.lines) }
+        ensures spans { IfOk result (λ text. text.fault ≡ None → text.words ≡ words_of text.words text.lines) }
         ensures counted { IfOk result (λ text. text.line_count ≡ lines_before (lexed_within self.most_line self.text).ending) }
         ensures script { self.most_line ≡ common_limit limits.Line → IfOk result (λ text. text_seen text ≡ lexed self.text) }
     {
