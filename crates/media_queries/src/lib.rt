@@ -82,8 +82,8 @@ impl Query {
     }
 
     /// Appends the text of the list, with one space for each mandatory gap and no other, and each length as the shortest text
-    /// that parses as it, the first of these in byte order. The appended text parses as an equal list, and no text that does is
-    /// shorter. If an allocation fails, nothing is appended.
+    /// that parses as it, the first of these in byte order. If an allocation fails, nothing is appended. What the text of a parsed
+    /// list parses as is said by the law `printed_list_reads_back`.
     pub fn push_text(&self, into: &mut Vec<u8>) -> Result<(), AllocError>
         ensures ok { OnOk result (into.new.items ≡ into.old.items ++ list_text self.now) }
         ensures err { OnErr result (into.new.items ≡ into.old.items) }
