@@ -7,3 +7,4 @@ pub mod Pixels
 pub mod Signed
 pub mod Parts
 pub mod Whole
+pub mod Kept

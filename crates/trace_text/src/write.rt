@@ -1,6 +1,7 @@
 //! Writing lines as text.
 
 ghost use Rattle.std.specs.Prelude.{◌≡◌, [], ◌∷◌, ◌++◌, OnOk, OnErr, Some, IfSome, codes};
+ghost use Rattle.std.specs.Io.{StartsWith};
 ghost use Rattle.word_model.specs.Numbers.{decimal};
 ghost use Rattle.px_units.specs.Texts.{sign_text, pixel_text};
 ghost use Rattle.text_io.specs.Kinds.{limit_word, throw_word};
@@ -33,9 +34,11 @@ pub fn write_line(alloc: Global, line: &TraceLine, into: &mut Vec<u8>) -> Result
     into.extend_from_slice(text.as_slice())
 }
 
-/// Appends a space and a field.
+/// Appends a space and a field. If an allocation fails, the previous contents are kept, but something may have been appended.
+#[tactic(auto, using(crate::proofs::Kept::keeps_more, crate::proofs::Kept::keeps_same))]
 pub fn push_field(out: &mut Vec<u8>, field: &[u8]) -> Result<(), AllocError>
-    ensures { OnOk result (out.new.items ≡ with_fields out.old.items (field.now ∷ [])) }
+    ensures ok { OnOk result (out.new.items ≡ with_fields out.old.items (field.now ∷ [])) }
+    ensures kept { StartsWith out.new.items out.old.items }
 {
     out.push(b' ')?;
     out.extend_from_slice(field)
@@ -56,17 +59,22 @@ fn push_window(out: &mut Vec<u8>, document: &Name) -> Result<(), AllocError>
     out.extend_from_slice(document.bytes())
 }
 
-/// Appends a space and a number in decimal.
+/// Appends a space and a number in decimal. If an allocation fails, the previous contents are kept, but something may have
+/// been appended.
+#[tactic(auto, using(crate::proofs::Kept::keeps_more, crate::proofs::Kept::keeps_same))]
 pub fn push_number(out: &mut Vec<u8>, number: u128) -> Result<(), AllocError>
-    ensures { OnOk result (out.new.items ≡ with_fields out.old.items (decimal number ∷ [])) }
+    ensures ok { OnOk result (out.new.items ≡ with_fields out.old.items (decimal number ∷ [])) }
+    ensures kept { StartsWith out.new.items out.old.items }
 {
     out.push(b' ')?;
     push_decimal(out, number)
 }
 
 /// Appends a length given in units.
+#[tactic(auto, using(crate::proofs::Kept::keeps_more, crate::proofs::Kept::keeps_same))]
 fn push_length(out: &mut Vec<u8>, units: i64) -> Result<(), AllocError>
-    ensures { OnOk result (out.new.items ≡ with_fields out.old.items (pixel_text units ∷ [])) }
+    ensures ok { OnOk result (out.new.items ≡ with_fields out.old.items (pixel_text units ∷ [])) }
+    ensures kept { StartsWith out.new.items out.old.items }
 {
     out.push(b' ')?;
     push_px(out, Px(units))
@@ -103,10 +111,13 @@ fn push_ratio(out: &mut Vec<u8>, part: u128, whole: u128) -> Result<(), AllocErr
     push_decimal(out, whole)
 }
 
-/// Appends a rectangle's left and top edge, its width and its height, each after a space.
+/// Appends a rectangle's left and top edge, its width and its height, each after a space. If an allocation fails, the previous
+/// contents are kept, but something may have been appended.
+#[tactic(auto, using(crate::proofs::Kept::keeps_on))]
 pub fn push_rect(out: &mut Vec<u8>, rect: &Rect) -> Result<(), AllocError>
     requires { RectReaches rect.now }
-    ensures { OnOk result (out.new.items ≡ with_fields out.old.items (rect_fields rect.now)) }
+    ensures ok { OnOk result (out.new.items ≡ with_fields out.old.items (rect_fields rect.now)) }
+    ensures kept { StartsWith out.new.items out.old.items }
 {
     push_length(out, rect.left)?;
     push_length(out, rect.top)?;

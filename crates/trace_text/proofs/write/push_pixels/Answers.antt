@@ -6,7 +6,7 @@ use Rattle.trace_text.proofs.write.push_pixels.Goals as goal
 
 pub returns : goal.returns
 returns c = on_ok_weaker c.push_whole-2.result
-    (λ e. pixels_pushed _ _ _ _ c.args.size.now c.in_ok-push_field.ensures
+    (λ e. pixels_pushed _ _ _ _ c.args.size.now c.in_ok-push_field.ensures.ok
     (whole_same _ _ _ _ (omega (arith, ints)) c.in_ok-push_whole.ensures)
     (whole_same _ _ _ _ (omega (arith, ints)) e))
     c.push_whole-2.ensures
