@@ -104,7 +104,7 @@ impl Style {
     }
 
     /// Sets one property: a single side, or, for a shorthand, all four sides (CSS 2.2, 4.1.8 and 8.3 to 8.5). All other
-    /// properties keep their values.
+    /// properties keep their values, if the style and the declaration have values that their properties allow.
     pub fn apply(&mut self, declaration: Declaration)
         ensures value { seen_style self.new ≡ declared (seen_declaration declaration) (seen_style self.old) }
         ensures range { IsAllowed declaration → IsStyle self.old → IsStyle self.new }
