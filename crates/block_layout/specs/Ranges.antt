@@ -1,8 +1,12 @@
 -- The results of layout are bounded by the largest length.
-use Rattle.std.specs.Prelude.{ℕ, ◌≤◌, pos, ◌≤ℤ◌, IfSome}
+use Rattle.std.specs.Prelude.{ℕ, ◌≤◌, ℤ, pos, ◌≤ℤ◌, IfSome}
 use Rattle.layout_model.specs.Styles.{Sides}
 use Rattle.layout_model.specs.Boxes.{Box}
 use Rattle.block_layout.specs.declared.Inputs.{Inputs}
+
+-- from 0 to the largest length
+abbrev pub IsLength : ℤ → Type 0
+IsLength units = (pos 0 ≤ℤ units) × (units ≤ℤ pos 2147483647)
 
 pub record IsInputs (inputs : Inputs) : Type 0 where
   pub wide : pos 0 ≤ℤ inputs.width

@@ -71,10 +71,11 @@ impl FreshBoxes {
     }
 
     /// Adds the slot of a node, which needn't be in a tree yet, and those of all lower numbers; existing slots are unchanged.
-    /// Fails only if an allocation fails, and then nothing changes.
+    /// Fails only if the slot doesn't exist and can't be allocated, and then nothing changes.
     pub fn add(&mut self, node: NodeId) -> Result<(), AllocError>
         ensures added { OnOk result (self.new ≡ with_place node.0 self.old) }
         ensures same { OnErr result (self.new ≡ self.old) }
+        ensures needed { OnErr result (length self.old ≤ node.0) }
     {
         let count = node.0 as usize + 1;
         if self.places.len() < count {

@@ -12,6 +12,7 @@ ghost use Rattle.block_layout.specs.Around.{seen_extent};
 ghost use Rattle.block_layout.specs.Far.{far_in};
 ghost use Rattle.block_layout.specs.Filling.{IsUnpositioned};
 ghost use Rattle.block_layout.specs.Held.{HoldsBoxes};
+ghost use Rattle.block_layout.specs.Ranges.{IsLength};
 ghost use Rattle.block_layout.specs.Seen.{as_size};
 ghost use Rattle.block_layout.specs.Trees.{layout_tree};
 
@@ -88,6 +89,7 @@ pub fn overflow_reach<P: Styled, B: Boxes>(
         IfSome view (λ size. IsUnpositioned at node.0 → (at node.0).parent ≡ None → (document : View) → document.root ≡ Some node.0 →
         document.width ≡ unsigned_abs size.width → document.height ≡ unsigned_abs size.height →
         HoldsBoxes at document node.0 (B.held boxes.now) → result ≡ as_size (reach_of_view at document)) }
+    ensures range { IsLength result.width × IsLength result.height }
 {
     match view {
         None => container_reach(tree, boxes, node),
@@ -106,10 +108,11 @@ pub fn overflow_reach<P: Styled, B: Boxes>(
 // Returns how far a box reaches: over its padding box, and over its content if it clips that.
 fn container_reach<P: Styled, B: Boxes>(tree: &Tree<P>, boxes: &B, node: NodeId) -> Size
     requires { node.0 < length tree.now.nodes }
-    ensures { IsUnpositioned (layout_tree P.style P.kind tree.now.nodes) node.0 → (document : View) (inputs : Inputs) →
+    ensures value { IsUnpositioned (layout_tree P.style P.kind tree.now.nodes) node.0 → (document : View) (inputs : Inputs) →
         inputs_in_view (layout_tree P.style P.kind tree.now.nodes) document node.0 ≡ Some inputs →
         HoldsBoxes (layout_tree P.style P.kind tree.now.nodes) document node.0 (B.held boxes.now) →
         result ≡ as_size (reach_of (layout_tree P.style P.kind tree.now.nodes) document node.0) }
+    ensures range { IsLength result.width × IsLength result.height }
 {
     match boxes.box_of(node) {
         Some(own) => {
@@ -123,10 +126,11 @@ fn container_reach<P: Styled, B: Boxes>(tree: &Tree<P>, boxes: &B, node: NodeId)
 
 fn view_reach<P: Styled, B: Boxes>(tree: &Tree<P>, boxes: &B, root: NodeId, size: Extent) -> Size
     requires { root.0 < length tree.now.nodes }
-    ensures { IsUnpositioned (layout_tree P.style P.kind tree.now.nodes) root.0 → (layout_tree P.style P.kind tree.now.nodes root.0).parent ≡ None → (document : View) →
+    ensures value { IsUnpositioned (layout_tree P.style P.kind tree.now.nodes) root.0 → (layout_tree P.style P.kind tree.now.nodes root.0).parent ≡ None → (document : View) →
         document.root ≡ Some root.0 → document.width ≡ size.across → document.height ≡ size.down →
         HoldsBoxes (layout_tree P.style P.kind tree.now.nodes) document root.0 (B.held boxes.now) →
         result ≡ as_size (reach_of_view (layout_tree P.style P.kind tree.now.nodes) document) }
+    ensures range { IsLength result.width × IsLength result.height }
 {
     match shown_box(tree, boxes, root) {
         Some(own) => {

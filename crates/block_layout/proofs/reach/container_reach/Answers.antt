@@ -12,8 +12,8 @@ use Rattle.block_layout.proofs.Forests.{linked, listed, shallow, once}
 use Rattle.block_layout.proofs.Reaching.{some_same, some_none}
 use Rattle.block_layout.proofs.reach.container_reach.Goals as goal
 
-pub returns-in-Some : goal.returns-in-Some
-returns-in-Some g c still document inputs found holds =
+pub returns-in-Some-clause-value : goal.returns-in-Some-clause-value
+returns-in-Some-clause-value g c still document inputs found holds =
     let at = layout_tree g.P.Styled.style g.P.Styled.kind c.args.tree.now.nodes in
     let node = c.args.node.0 in
     let forest = c.is_clipping.ensures.forest in
@@ -38,7 +38,7 @@ returns-in-Some g c still document inputs found holds =
     (container_reach at (linked g.P.Styled.style g.P.Styled.kind forest) (listed g.P.Styled.style g.P.Styled.kind forest) (shallow g.P.Styled.style g.P.Styled.kind forest)
     (once g.P.Styled.style g.P.Styled.kind forest) document node still inputs found))
 
-pub returns-in-None : goal.returns-in-None
-returns-in-None g c still document inputs found holds =
+pub returns-in-None-clause-value : goal.returns-in-None-clause-value
+returns-in-None-clause-value g c still document inputs found holds =
     let at = layout_tree g.P.Styled.style g.P.Styled.kind c.args.tree.now.nodes in
     absurd (some_none (box_in at inputs (c.args.node.0)) (sym c.in-None.is ∙ c.box_of.ensures ∙ holds (c.args.node.0) inputs (in_self at (c.args.node.0)) found))

@@ -23,7 +23,7 @@ returns-in-Some-clause-viewport g c =
     → document.width ≡ unsigned_abs size.width → document.height ≡ unsigned_abs size.height
     → HoldsBoxes at document (c.args.node.0) (g.B.Boxes.held c.args.boxes.now) → c.view_reach.result ≡ as_size (reach_of_view at document)))
     (sym c.in-Some.is)
-    (λ still top document is wide tall holds. c.view_reach.ensures still top document is
+    (λ still top document is wide tall holds. c.view_reach.ensures.value still top document is
     (wide ∙ sym (c.unsigned_abs.ensures.value ∙ ap unsigned_abs width))
     (tall ∙ sym (c.unsigned_abs-in-Some.ensures.value ∙ ap unsigned_abs height))
     holds)

@@ -30,8 +30,8 @@ far_inside-deeper-requires-clause-down g c =
     let low : c.in-Some.own.margin.top ≤ 2147483647 = c.margin_offset-corner.ensures.range.margin.top in
     omega (arith, depth_positive c.args.tree.now.nodes (c.args.root.0))
 
-pub returns-in-Some : goal.returns-in-Some
-returns-in-Some g c still top document is wide tall holds =
+pub returns-in-Some-clause-value : goal.returns-in-Some-clause-value
+returns-in-Some-clause-value g c still top document is wide tall holds =
     let at = layout_tree g.P.Styled.style g.P.Styled.kind c.args.tree.now.nodes in
     let root = c.args.root.0 in
     let forest = c.shown_box.ensures.forest in
@@ -63,8 +63,8 @@ returns-in-Some g c still top document is wide tall holds =
     (shown_reach at (linked g.P.Styled.style g.P.Styled.kind forest) (listed g.P.Styled.style g.P.Styled.kind forest) (shallow g.P.Styled.style g.P.Styled.kind forest)
     (once g.P.Styled.style g.P.Styled.kind forest) document root is top still parts.0))
 
-pub returns-in-None : goal.returns-in-None
-returns-in-None g c still top document is wide tall holds =
+pub returns-in-None-clause-value : goal.returns-in-None-clause-value
+returns-in-None-clause-value g c still top document is wide tall holds =
     let at = layout_tree g.P.Styled.style g.P.Styled.kind c.args.tree.now.nodes in
     let root = c.args.root.0 in
     let hidden = hidden_none _ (g.B.Boxes.held c.args.boxes.now root) (box_in at (view_inputs document) root) (sym c.shown_box.ensures.value ∙ c.in-None.is)
