@@ -6,7 +6,8 @@ use Rattle.std.specs.Prelude.{max, IfSome, unwrap_or, option_map, pos, negsuc, n
 use mir.Val.{to_z, of_z, SFits}
 use mir.Syntax.{w32, w64}
 use Rattle.px_units.specs.Lengths.{cap, clamped, signed_part, at_least_zero}
-use Rattle.positioned_layout.specs.Seen.{IsReach, IsSpan, IsNear, IsCorner, IsLength}
+use Rattle.block_layout.specs.Ranges.{IsLength}
+use Rattle.positioned_layout.specs.Seen.{IsReach, IsSpan, IsNear, IsCorner}
 
 pub pos_abs : (x : ℤ) → pos 0 ≤ℤ x → pos (unsigned_abs x) ≡ x
 pos_abs (pos n) low = refl

@@ -5,6 +5,7 @@ use Rattle.px_units.specs.declared.Size.{Size}
 use Rattle.layout_model.specs.Nodes.{Holder as HolderModel, HeldByElement, HeldByPage, HeldByScreen}
 use Rattle.layout_model.specs.FlatPlaces.{Along}
 use Rattle.element_tree.specs.declared.node.NodeId.{NodeId}
+use Rattle.block_layout.specs.Ranges.{IsLength}
 use Rattle.positioned_layout.specs.declared.Holder.{Holder}
 use Rattle.positioned_layout.specs.declared.Holder.TheVariants as holder
 use Rattle.positioned_layout.specs.declared.Measure.{Measure}
@@ -64,10 +65,6 @@ IsSpan units = (pos 0 ≤ℤ units) × (units ≤ℤ pos 1099511627776)
 
 abbrev pub IsSpanOfSize : Size → Type 0
 IsSpanOfSize size = IsSpan size.width × IsSpan size.height
-
--- from 0 to the largest length
-abbrev pub IsLength : ℤ → Type 0
-IsLength units = (pos 0 ≤ℤ units) × (units ≤ℤ pos 2147483647)
 
 -- no number of a measure is negative or above 2 ^ 40, and neither coordinate of the padding box's corner is above the largest
 -- length

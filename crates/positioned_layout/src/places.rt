@@ -11,9 +11,10 @@ ghost use Rattle.element_tree.specs.Links.{number};
 ghost use Rattle.px_units.specs.Lengths.{cap, seen_length};
 ghost use Rattle.style_values.specs.Ranges.{IsSize, IsStyle};
 ghost use Rattle.style_values.specs.Seen.{seen_style};
+ghost use Rattle.block_layout.specs.Ranges.{IsLength};
 ghost use Rattle.positioned_layout.specs.Along.{part, along, far_side, place_of};
 ghost use Rattle.positioned_layout.specs.Measured.{IsMeasureOf, AreMeasuresUp, IsMeasuredAt};
-ghost use Rattle.positioned_layout.specs.Seen.{as_place, seen_measure, seen_side, IsMeasure, IsReach, IsNear, IsNearPoint, IsCorner, IsCornerPoint, IsLength, IsSide};
+ghost use Rattle.positioned_layout.specs.Seen.{as_place, seen_measure, seen_side, IsMeasure, IsReach, IsNear, IsNearPoint, IsCorner, IsCornerPoint, IsSide};
 ghost use Rattle.positioned_layout.specs.Trees.{AreNodesOf};
 
 use crate::holders::{holder_of, position};

@@ -10,6 +10,7 @@ ghost use Rattle.layout_model.specs.FlatPlaces.{flat_place, border_corner, corne
 ghost use Rattle.layout_model.specs.Reach.{reach_of, reach_of_view};
 ghost use Rattle.element_tree.specs.Forest.{IsForest, depth, parent_of, children_of};
 ghost use Rattle.style_values.specs.Seen.{seen_position};
+ghost use Rattle.block_layout.specs.Ranges.{IsLength};
 ghost use Rattle.positioned_layout.specs.Measured.{AreMeasuresOf, AreMeasuresUp, IsMeasuredAt};
 ghost use Rattle.positioned_layout.specs.Seen.{as_place, as_size, pair_of_size, seen_measure, IsMeasure, IsNear, IsNearPoint, IsCorner, IsCornerPoint, IsSpan, IsSpanOfSize};
 ghost use Rattle.positioned_layout.specs.Trees.{AreNodesOf};
@@ -156,7 +157,8 @@ impl Farthest {
     }
 
     fn capped(self) -> Size
-        ensures { result ≡ as_size (capped (pair_of_size self.size)) }
+        ensures value { result ≡ as_size (capped (pair_of_size self.size)) }
+        ensures range { IsLength result.width × IsLength result.height }
     {
         Size {
             width: capped(self.size.width.unsigned_abs()) as i64,
@@ -265,6 +267,7 @@ pub fn reach<P: Placed, M: Measures>(
     ensures viewport { of ≡ None → parent_of tree.now.nodes root.0 ≡ None → (at : ℕ → Node) (document : View) → AreNodesOf P.placed tree.now.nodes at →
         document.root ≡ Some root.0 → document.width ≡ unsigned_abs view.width → document.height ≡ unsigned_abs view.height →
         AreMeasuresOf at document (M.measured measures.now) → result ≡ as_size (reach_of_view at document) }
+    ensures range { IsLength result.width × IsLength result.height }
 {
     match of {
         Some(node) => container_reach(tree, measures, node),
@@ -324,9 +327,10 @@ fn absolute_holder<P: Placed, M: Measures>(
 
 fn container_reach<P: Placed, M: Measures>(tree: &Tree<P>, measures: &M, node: NodeId) -> Size
     requires { node.0 < length tree.now.nodes }
-    ensures { (at : ℕ → Node) (document : View) (inputs : Inputs) → AreNodesOf P.placed tree.now.nodes at →
+    ensures value { (at : ℕ → Node) (document : View) (inputs : Inputs) → AreNodesOf P.placed tree.now.nodes at →
         AreMeasuresOf at document (M.measured measures.now) →
         inputs_in_view at document node.0 ≡ Some inputs → result ≡ as_size (reach_of at document node.0) }
+    ensures range { IsLength result.width × IsLength result.height }
 {
     let positioned = is_positioned(tree, node);
     let Some(own) = measures.measure(node) else {
@@ -365,9 +369,10 @@ fn view_reach<P: Placed, M: Measures>(
 ) -> Size
     requires root { root.0 < length tree.now.nodes }
     requires view { IsSpanOfSize view }
-    ensures { parent_of tree.now.nodes root.0 ≡ None → (at : ℕ → Node) (document : View) → AreNodesOf P.placed tree.now.nodes at →
+    ensures value { parent_of tree.now.nodes root.0 ≡ None → (at : ℕ → Node) (document : View) → AreNodesOf P.placed tree.now.nodes at →
         document.root ≡ Some root.0 → document.width ≡ unsigned_abs view.width → document.height ≡ unsigned_abs view.height →
         AreMeasuresOf at document (M.measured measures.now) → result ≡ as_size (reach_of_view at document) }
+    ensures range { IsLength result.width × IsLength result.height }
 {
     let far = Farthest {
         corner: NOWHERE,

@@ -11,8 +11,8 @@ use Rattle.positioned_layout.proofs.Opening.{opens_inside, opens_self, comes_to,
 use Rattle.positioned_layout.proofs.Placing.{measured_at, measured_none}
 use Rattle.positioned_layout.proofs.reaches.container_reach.Goals as goal
 
-pub returns-in_default : goal.returns-in_default
-returns-in_default g c at view inputs are measures found =
+pub returns-in_default-clause-value : goal.returns-in_default-clause-value
+returns-in_default-clause-value g c at view inputs are measures found =
     let n = c.args.node.0 in
     let low = shallow g.P.Placed.placed c.args.tree.now.nodes at are c.is_positioned-positioned.ensures.forest in
     let boxed = ap is_some found in
@@ -37,8 +37,8 @@ far_below-requires-clause-room g c =
       height = (range.padding.1.0, omega (arith, ints, range.padding.1.1));
     }
 
-pub returns : goal.returns
-returns g c at view inputs are measures found =
+pub returns-clause-value : goal.returns-clause-value
+returns-clause-value g c at view inputs are measures found =
     let n = c.args.node.0 in
     let forest = c.is_positioned-positioned.ensures.forest in
     let low = shallow g.P.Placed.placed c.args.tree.now.nodes at are forest in
@@ -50,5 +50,5 @@ returns g c at view inputs are measures found =
     let absolute = c.absolute_holder.ensures.value at view are low (λ m inside. measures m (comes_to at low view n m inside boxed)) (c.is_positioned-positioned.ensures.value at are) boxed (record { corner = corner_is; opened = open_is }) in
     let far = c.far_below.ensures.value at view (opens_in at n) are measures (opens_inside at low n) boxed own_is
     (record { place = flat_is; flow = open_is; absolute = absolute; fixed = record { corner = refl; opened = refl } }) in
-    c.capped.ensures
+    c.capped.ensures.value
     ∙ ap as_size (container_far g.P.Placed.placed c.args.tree.now.nodes at are forest view n inputs c.in-Some.own (record { corner = c.padding_corner-corner.result; size = c.in-Some.own.padding }) c.far_below.result found own_is corner_is refl far)

@@ -15,12 +15,12 @@ use Rattle.positioned_layout.proofs.Placing.{measured_at, measured_boxed, measur
 use Rattle.positioned_layout.proofs.Walking.{far_one}
 use Rattle.positioned_layout.proofs.reaches.view_reach.Goals as goal
 
-pub returns-in_default : goal.returns-in_default
-returns-in_default g c top at view are root_is width_is height_is measures =
+pub returns-in_default-clause-value : goal.returns-in_default-clause-value
+returns-in_default-clause-value g c top at view are root_is width_is height_is measures =
     let root = c.args.root.0 in
     let first = are.parent root ∙ top in
     let come : IsComeTo at view root = subst (is_come_to at view root) (sym first) root_is in
-    c.capped.ensures
+    c.capped.ensures.value
     ∙ ap as_size
     (view_bare at view root root_is first (record { corner = record { left = pos 0; top = pos 0 }; size = c.args.view }) refl (pair_is _ _ _ _ (sym width_is) (sym height_is))
     (λ boxed. measured_none at view root _ (measures root come) boxed c.measure.result c.measure.ensures.value c.in_default.is))
@@ -35,8 +35,8 @@ far_below-requires-clause-around g c = record {
   fixed = ((omega (arith, ints), omega (arith, ints)), (omega (arith, ints), omega (arith, ints)));
 }
 
-pub returns : goal.returns
-returns g c top at view are root_is width_is height_is measures =
+pub returns-clause-value : goal.returns-clause-value
+returns-clause-value g c top at view are root_is width_is height_is measures =
     let root = c.args.root.0 in
     let first = are.parent root ∙ top in
     let come : IsComeTo at view root = subst (is_come_to at view root) (sym first) root_is in
@@ -56,5 +56,5 @@ returns g c top at view are root_is width_is height_is measures =
       absolute = subst (λ by. IsHeld at view (opens_view at) by page) (sym (absolute_top at low root first)) (record { corner = refl; opened = refl });
       fixed = record { corner = refl; opened = refl };
     }) in
-    c.capped-2.ensures
+    c.capped-2.ensures.value
     ∙ ap as_size (view_far g.P.Placed.placed c.args.tree.now.nodes at are forest view root root_is begun c.with.result c.far_below.result refl (pair_is _ _ _ _ (sym width_is) (sym height_is)) c.with.ensures.corner own kids)
