@@ -85,6 +85,12 @@ due_like wanted old new (suc n) same =
     ∙ ap (λ b. due_count wanted old n + one_if b) (same n (omega arith))
     ∙ sym (due_step wanted old n)
 
+pub due_none : (wanted : ℕ → Option Inputs) (slot : ℕ → Slot) → ((n : ℕ) → is_due wanted slot n ≡ false) → (count : ℕ) → due_count wanted slot count ≡ 0
+due_none wanted slot none zero = due_zero wanted slot
+due_none wanted slot none (suc n) =
+    let here : one_if (is_due wanted slot n) ≡ 0 = ap one_if (none n) in
+    omega (arith, due_step wanted slot n, due_none wanted slot none n)
+
 module _ (wanted : ℕ → Option Inputs) (x : ℕ) (old new : ℕ → Slot) (others : (m : ℕ) → m ≢ x → new m ≡ old m) where
   due_other : (m : ℕ) → m ≢ x → is_due wanted new m ≡ is_due wanted old m
   due_other m other = ap (is_due_at (wanted m)) (others m other)

@@ -27,7 +27,7 @@ pub record Going (at : ℕ → Node) (n : ℕ) (inputs : Inputs) (count : ℕ) (
   pub walked : HasSlots at n count → Walked at now n inputs xs above outside
   pub unboxed : KeepsUnboxed at n first now
   pub ticks : HasSlots at n count → (wanted : ℕ → Option Inputs) → GoesInFlow at n wanted → wanted n ≡ Some inputs
-      → steps + due_count wanted now count ≤ begun + due_count wanted first count
+      → steps + due_count wanted now count ≡ begun + due_count wanted first count
   pub sound : HasSlots at n count → ((p : ℕ) → IsCounted at p n → (first p).marked ≡ true) → IsSoundInFlow at first → IsSoundInFlow at now
 
 -- nothing is done where the node isn't due
@@ -103,7 +103,7 @@ module _ (at : ℕ → Node) (shaped : IsShaped at) (shallow : IsShallow at) (n 
     mid_sound slots up sound = sound_put at shaped n inputs x kid old mid above (near slots) others (before_now slots).marked (going.sound slots up sound)
 
     mid_ticks : HasSlots at n count → (wanted : ℕ → Option Inputs) → GoesInFlow at n wanted → wanted n ≡ Some inputs
-        → steps + due_count wanted mid count ≤ begun + due_count wanted first count
+        → steps + due_count wanted mid count ≡ begun + due_count wanted first count
     mid_ticks slots wanted down own =
         let same = paid_above wanted x old mid others above (near slots) count in
         let one = going.ticks slots wanted down own in

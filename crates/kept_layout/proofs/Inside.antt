@@ -32,7 +32,7 @@ nothing_out hidden flow within shown none = by flow within (sym (ap (λ h. not h
 pub record AreSettledKids (at : ℕ → Node) (root : ℕ) (viewport : Inputs) (n : ℕ) (xs : List ℕ) (count : ℕ) (old new : ℕ → Slot) (before after : ℕ) : Type 0 where
   pub settled : (x m : ℕ) (inputs : Inputs) → has xs x ≡ true → is_in_path at x m ≡ true → inputs_in at root viewport m ≡ Some inputs → IsSettled (new m) inputs
   pub ticks : (wanted : ℕ → Option Inputs) → ((m : ℕ) → is_in_path at n m ≡ true → wanted m ≡ inputs_in at root viewport m)
-      → after + due_count wanted new count ≤ before + due_count wanted old count
+      → after + due_count wanted new count ≡ before + due_count wanted old count
   pub sound : IsSoundInFlow at new
 
 pub record Inside (at : ℕ → Node) (n : ℕ) (outside : Outside) (count : ℕ) (first now : ℕ → Slot) (xs : List ℕ) (begun steps : ℕ) : Type 0 where

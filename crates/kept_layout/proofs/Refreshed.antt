@@ -13,7 +13,7 @@ use Rattle.kept_layout.specs.Due.{is_due_at, is_due, due_count}
 use Rattle.kept_layout.specs.Fresh.{IsFresh}
 use Rattle.kept_layout.specs.Sound.{IsShownIn, HasSlots, IsSound}
 use Rattle.kept_layout.specs.Walks.{IsSettled, IsSoundInFlow, GoesInFlow, IsRefreshed, AreSettledIn, IsRefreshedInside}
-use Rattle.kept_layout.proofs.Counts.{settled_due}
+use Rattle.kept_layout.proofs.Counts.{settled_due, due_none}
 use Rattle.kept_layout.proofs.Exact.{sound_in_flow, fresh_under}
 use Rattle.kept_layout.proofs.Lists.{itself}
 use Rattle.kept_layout.proofs.Shapes.{IsShaped}
@@ -104,7 +104,7 @@ module _ (at : ℕ → Node) (shaped : IsShaped at) (linked : IsLinked at) (shal
       flow_sound = all.sound
 
       pub paid_all : (wanted : ℕ → Option Inputs) → ((n : ℕ) → is_in_path at root n ≡ true → wanted n ≡ inputs_in at root viewport n)
-          → later + due_count wanted new count ≤ begun + due_count wanted old count
+          → later + due_count wanted new count ≡ begun + due_count wanted old count
       paid_all wanted same =
           let goes : GoesInFlow at root wanted = λ p c inputs inside counted wants.
           same c (above_in at shallow root c p (shaped.parents p c counted.child.listed) inside)
@@ -119,9 +119,9 @@ pub record WholeTree (at : ℕ → Node) (root : ℕ) (viewport : Inputs) (count
   pub done : HasSlots at root count → IsSound at old → (n : ℕ) → is_due (inputs_in at root viewport) new n ≡ false
   pub sound : HasSlots at root count → IsSound at old → IsSound at new
   pub others : (n : ℕ) → inputs_in at root viewport n ≡ None → new n ≡ old n
-  pub ticks : HasSlots at root count → IsSound at old → later ≤ begun + due_count (inputs_in at root viewport) old count
+  pub ticks : HasSlots at root count → IsSound at old → later ≡ begun + due_count (inputs_in at root viewport) old count
   pub paid : HasSlots at root count → IsSound at old → (wanted : ℕ → Option Inputs) → ((n : ℕ) → is_in_path at root n ≡ true → wanted n ≡ inputs_in at root viewport n)
-      → later + due_count wanted new count ≤ begun + due_count wanted old count
+      → later + due_count wanted new count ≡ begun + due_count wanted old count
 
 module _ (at : ℕ → Node) (shaped : IsShaped at) (linked : IsLinked at) (shallow : IsShallow at) (root : ℕ) (viewport : Inputs) where
   pub whole_same : (slot : ℕ → Slot) (count steps : ℕ) → (at root).item.style.hidden ≡ true → WholeTree at root viewport count slot slot steps steps
@@ -132,7 +132,9 @@ module _ (at : ℕ → Node) (shaped : IsShaped at) (linked : IsLinked at) (shal
         done = λ _ _. none_due at shaped linked shallow root viewport slot (λ n inputs boxed. absurd (none n inputs boxed));
         sound = λ _ sound. sound;
         others = λ n _. refl;
-        ticks = λ _ _. omega arith;
+        ticks = λ _ _.
+            let nothing = due_none (inputs_in at root viewport) slot (none_due at shaped linked shallow root viewport slot (λ n inputs boxed. absurd (none n inputs boxed))) count in
+            omega arith;
         paid = λ _ _ wanted same. omega arith;
       }
 
@@ -152,6 +154,7 @@ module _ (at : ℕ → Node) (shaped : IsShaped at) (linked : IsLinked at) (shal
         others = kept;
         ticks = λ slots sound.
             let all = paid slots sound (inputs_in at root viewport) (λ n _. refl) in
+            let nothing = due_none (inputs_in at root viewport) new (none_due at shaped linked shallow root viewport new (settled slots sound)) count in
             omega arith;
         paid = paid;
       }

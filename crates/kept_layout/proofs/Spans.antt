@@ -6,9 +6,9 @@ use mir.Syntax.{w64}
 use Rattle.px_units.specs.declared.Point.{Point}
 use Rattle.px_units.specs.declared.Size.{Size}
 use Rattle.layout_model.specs.Boxes.{Box, inner_corner, padding_corner, margin_height, padding_size, border_size}
-use Rattle.block_layout.specs.Ranges.{IsBox}
+use Rattle.block_layout.specs.Ranges.{IsBox, IsLength}
 use Rattle.block_layout.specs.Seen.{as_point, as_size}
-use Rattle.positioned_layout.specs.Seen.{IsSpan, IsLength, IsSpanOfSize}
+use Rattle.positioned_layout.specs.Seen.{IsSpan, IsSpanOfSize}
 
 length_of : (units : ℕ) → units ≤ 2147483647 → IsLength (pos units)
 length_of units low = (omega (arith, ints), omega (arith, ints))

@@ -1,6 +1,6 @@
 -- What the two walks do that compute the boxes in a node: one goes down along what is in flow; the other goes to each box out of
 -- flow, in tree order, and starts the first one there.
-use Rattle.std.specs.Prelude.{◌≡◌, ◌+◌, ◌≤◌, ℕ, Bool, true, false, Option, Some, IfSome, find}
+use Rattle.std.specs.Prelude.{◌≡◌, ◌+◌, ℕ, Bool, true, false, Option, Some, IfSome, find}
 use Rattle.layout_model.specs.Nodes.{Node, path_of, is_in_path, is_positioned, held_by}
 use Rattle.layout_model.specs.Boxes.{Inputs, child_inputs, inputs_held, inputs_by, inputs_at, inputs_in}
 use Rattle.block_layout.specs.Seen.{seen_inputs}
@@ -48,7 +48,7 @@ pub record IsRefreshed (at : ℕ → Node) (n : ℕ) (inputs : Inputs) (count : 
   pub framed : IsFramed at n old new
   pub unboxed : KeepsUnboxed at n old new
   pub ticks : HasSlots at n count → (wanted : ℕ → Option Inputs) → GoesInFlow at n wanted → wanted n ≡ Some inputs
-      → after + due_count wanted new count ≤ before + due_count wanted old count
+      → after + due_count wanted new count ≡ before + due_count wanted old count
   pub sound : HasSlots at n count → ((p : ℕ) → IsCounted at p n → (old p).marked ≡ true) → IsSoundInFlow at old → IsSoundInFlow at new
 
 -- the inputs of an absolute box whose parent is this node
@@ -70,7 +70,7 @@ pub record IsChildSettled (at : ℕ → Node) (root : ℕ) (viewport : Inputs) (
   pub boxed : inputs_in at root viewport x ≡ Some inputs
   pub settled : IsSettled (new x) inputs
   pub ticks : (wanted : ℕ → Option Inputs) → ((m : ℕ) → is_in_path at x m ≡ true → wanted m ≡ inputs_in at root viewport m)
-      → after + due_count wanted new count ≤ before + due_count wanted old count
+      → after + due_count wanted new count ≡ before + due_count wanted old count
   pub sound : IsSoundInFlow at new
 
 -- a child was entered: nothing was written outside of it or for a node without a box; and if it is displayed in a node that the
@@ -91,7 +91,7 @@ pub record IsBroughtTo (at : ℕ → Node) (x : ℕ) (outside within : Outside) 
 pub record AreSettledIn (at : ℕ → Node) (root : ℕ) (viewport : Inputs) (n : ℕ) (count : ℕ) (old new : ℕ → Slot) (before after : ℕ) : Type 0 where
   pub settled : (m : ℕ) (inputs : Inputs) → is_in_path at n m ≡ true → inputs_in at root viewport m ≡ Some inputs → IsSettled (new m) inputs
   pub ticks : (wanted : ℕ → Option Inputs) → ((m : ℕ) → is_in_path at n m ≡ true → wanted m ≡ inputs_in at root viewport m)
-      → after + due_count wanted new count ≤ before + due_count wanted old count
+      → after + due_count wanted new count ≡ before + due_count wanted old count
   pub sound : IsSoundInFlow at new
 
 -- after the second walk was in a node, no box in it is due; the node's own is held as before

@@ -104,8 +104,8 @@ impl Kept {
     /// and each node in it has a slot, each box of that tree is then up to date, with the height above it, and the cache is
     /// still sound. Nothing changes for a node without a box (CSS 2.2, 9.2.4).
     ///
-    /// It takes at most one step for each node that is due, and leaves none due. It doesn't allocate, and recurses once per
-    /// level: a tree of 2,000 levels was tested, while some 5,000 may overflow the stack.
+    /// If the cache is sound for the tree, it takes one step for each node that is due, and leaves none due. It doesn't
+    /// allocate, and recurses once per level: a tree of 2,000 levels was tested, while some 5,000 may overflow the stack.
     pub fn refresh<P: Styled, L: Ledger>(
         &mut self,
         tree: &Tree<P>,
@@ -130,11 +130,11 @@ impl Kept {
         ensures slots { length self.new ≡ length self.old }
         ensures ticks { let at = layout_tree P.style P.kind tree.now.nodes in
             IsReady at root.0 self.old →
-            steps.new ≤ steps.old + due_count (inputs_in at root.0 (seen_inputs inputs)) (slot_in self.old) (length self.old) }
+            steps.new ≡ steps.old + due_count (inputs_in at root.0 (seen_inputs inputs)) (slot_in self.old) (length self.old) }
         ensures paid { let at = layout_tree P.style P.kind tree.now.nodes in
             IsReady at root.0 self.old →
             (wanted : ℕ → Option InputsModel) → ((n : ℕ) → is_in_path at root.0 n ≡ true → wanted n ≡ inputs_in at root.0 (seen_inputs inputs) n) →
-            steps.new + due_count wanted (slot_in self.new) (length self.old) ≤ steps.old + due_count wanted (slot_in self.old) (length self.old) }
+            steps.new + due_count wanted (slot_in self.new) (length self.old) ≡ steps.old + due_count wanted (slot_in self.old) (length self.old) }
     {
         refresh_tree(self.slots.as_mut_slice(), tree, root, inputs, steps);
     }

@@ -204,11 +204,11 @@ pub(crate) fn refresh_tree<P: Styled, L: Ledger>(
     ensures others { (n : ℕ) → inputs_in (layout_tree P.style P.kind tree.now.nodes) root.0 (seen_inputs inputs) n ≡ None →
         slot_in slots.new n ≡ slot_in slots.old n }
     ensures ticks { HasSlots (layout_tree P.style P.kind tree.now.nodes) root.0 (length slots.old) → IsSound (layout_tree P.style P.kind tree.now.nodes) (slot_in slots.old) →
-        steps.new ≤ steps.old + due_count (inputs_in (layout_tree P.style P.kind tree.now.nodes) root.0 (seen_inputs inputs)) (slot_in slots.old) (length slots.old) }
+        steps.new ≡ steps.old + due_count (inputs_in (layout_tree P.style P.kind tree.now.nodes) root.0 (seen_inputs inputs)) (slot_in slots.old) (length slots.old) }
     ensures paid { HasSlots (layout_tree P.style P.kind tree.now.nodes) root.0 (length slots.old) → IsSound (layout_tree P.style P.kind tree.now.nodes) (slot_in slots.old) →
         (wanted : ℕ → Option InputsModel) →
         ((n : ℕ) → is_in_path (layout_tree P.style P.kind tree.now.nodes) root.0 n ≡ true → wanted n ≡ inputs_in (layout_tree P.style P.kind tree.now.nodes) root.0 (seen_inputs inputs) n) →
-        steps.new + due_count wanted (slot_in slots.new) (length slots.old) ≤ steps.old + due_count wanted (slot_in slots.old) (length slots.old) }
+        steps.new + due_count wanted (slot_in slots.new) (length slots.old) ≡ steps.old + due_count wanted (slot_in slots.old) (length slots.old) }
 {
     if is_hidden(tree, root) {
         return;
