@@ -1,13 +1,14 @@
 -- Spots that are noted as looked at, and what is known of them.
-use Rattle.std.proofs.Common.{◌≡◌, ◌∙◌, ℕ, ◌<◌, true, false, length, ap, refl, sym, subst, inl, inr, get_or-set_other, length-set}
-use Rattle.std.specs.Prelude.{Some}
+use Rattle.std.proofs.Common.{◌≡◌, ◌∙◌, ℕ, ◌<◌, ◌≤◌, ◌+◌, suc, min, Bool, true, false, cond, List, length, get_or, ap, refl, sym, subst, inl, inr, arith, get_or-set_other, length-set}
+use Rattle.std.specs.Prelude.{Some, count_by, slice_set}
 use Rattle.std.proofs.lemmas.Bool.{false≢true}
 use Rattle.std.proofs.lemmas.List.{length-replicate}
+use Rattle.std.proofs.lemmas.List.Sums.{sum_by-set}
 use Rattle.element_tree.specs.declared.container.Container.{Container}
 use Rattle.element_tree.specs.declared.container.Container.TheVariants.{Element, Document}
 use Rattle.clip_chain.specs.Scenes.{Scene}
 use Rattle.kept_clips.specs.declared.sightings.Sighting.{Sighting}
-use Rattle.kept_clips.specs.Touches.{Touched}
+use Rattle.kept_clips.specs.Touches.{Touched, last_number, touched}
 use Rattle.kept_clips.specs.Held.{HeldClips}
 use Rattle.kept_clips.specs.Scenes.{AgreesAt}
 use Rattle.kept_clips.specs.Seen.{Seen, sighting_of, scene_seen, sighting_in, with_sighting, HasRoom}
@@ -15,7 +16,7 @@ use Rattle.kept_clips.specs.Looked.{IsLeft, Looked, IsInRange}
 use Rattle.kept_clips.proofs.Filling.{replicated}
 use Rattle.kept_clips.proofs.Spots.{other_node, other_view, same_or_apart}
 use Rattle.kept_clips.proofs.Seeing.{seen_there, seen_here, agrees_as_seen}
-use Rattle.kept_findings.specs.Looks.{LookedAt, is_looked, IsNoted, HasPlace, no_looks, noted, IsSeenNow, AreLooked}
+use Rattle.kept_findings.specs.Looks.{LookedAt, is_looked, IsNoted, looked_count, HasPlace, no_looks, noted, IsSeenNow, AreLooked}
 
 -- as an update begins
 
@@ -35,7 +36,7 @@ looked_first scene rank seen = record {
 
 -- one spot more
 
-noted_there : (it : LookedAt) (of other : Container) → (¬ other ≡ of) → is_looked (noted of it) other ≡ is_looked it other
+pub noted_there : (it : LookedAt) (of other : Container) → (¬ other ≡ of) → is_looked (noted of it) other ≡ is_looked it other
 noted_there it (Element a) (Element b) apart = get_or-set_other it.nodes a.0 b.0 true false (other_node b.0 a.0 apart)
 noted_there it (Element a) (Document d) apart = refl
 noted_there it (Document d) (Element b) apart = refl
@@ -71,6 +72,36 @@ module _ (scene : Scene) (rank : Container → ℕ) where
 
   pub agrees_noted : (seen : Seen) (it : LookedAt) → AreLooked scene rank seen it → (spot : Container) → IsNoted it spot → AgreesAt (scene_seen seen) scene spot
   agrees_noted seen it known spot is = agrees_as_seen seen spot scene (known.looked spot is).sighting
+
+-- how many were looked at, and how many touches that makes
+
+more_marks : (marks : List Bool) (k : ℕ) → k < length marks → get_or marks k false ≡ false → count_by (λ is. is) (slice_set marks k true) ≡ count_by (λ is. is) marks + 1
+more_marks marks k there unmarked =
+    let counted : Bool → ℕ = λ is. cond is 1 0 in
+    let more = sum_by-set counted marks k true false there in
+    let none : counted (get_or marks k false) ≡ counted false = ap counted unmarked in
+    omega (arith, more, none)
+
+pub count_noted : (it : LookedAt) (of : Container) → HasPlace it of → is_looked it of ≡ false → looked_count (noted of it) ≡ looked_count it + 1
+count_noted it (Element a) place unmarked = let more = more_marks it.nodes a.0 place unmarked in omega (arith, more)
+count_noted it (Document d) place unmarked = let more = more_marks it.views d.0 place unmarked in omega (arith, more)
+
+touched_count : (of : Container) (it : Touched) → (touched of it).count ≡ min (suc it.count) last_number
+touched_count (Element a) it = refl
+touched_count (Document d) it = refl
+
+pub touched_once : (scene : Scene) (before now : Seen) (was held : HeldClips) (of : Container) → HasRoom before of → now ≡ with_sighting of (sighting_in scene of) before →
+    (sighting_of before of ≡ Some (sighting_in scene of) → held ≡ was) → ((¬ sighting_of before of ≡ Some (sighting_in scene of)) → held ≡ record was { touches = touched of (was.touches) }) →
+    Looked scene before now was held → held.touches.count ≤ was.touches.count + 1
+touched_once scene before now was held of room is same anew looked = elim (looked.spots.each of) [
+  | inl left ↦
+      let seen = sym left.sighting ∙ ap (λ (seen : Seen). sighting_of seen of) is ∙ seen_here before of (sighting_in scene of) room in
+      let count : held.touches.count ≡ was.touches.count = ap (λ (clips : HeldClips). clips.touches.count) (same seen) in
+      omega (arith, count)
+  | inr differs ↦
+      let count : held.touches.count ≡ min (suc was.touches.count) last_number = ap (λ (clips : HeldClips). clips.touches.count) (anew differs.differs) ∙ touched_count of was.touches in
+      omega (arith, count)
+]
 
 -- spots that are left
 

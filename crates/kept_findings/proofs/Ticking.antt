@@ -49,7 +49,7 @@ current_now it serial clip between numbered below =
 
 module _ (scene : Scene) (standings : Root → ℕ → Standing) (it : IntersectionObservers) (between : ℕ → List Container) where
   -- another pair stays as it is
-  current_apart : (serial other : ℕ) (clip : Clip) (clips : HeldClips) → (¬ other ≡ serial) → is_current (with_clip serial clip clips) other (between other) ≡ is_current clips other (between other)
+  pub current_apart : (serial other : ℕ) (clip : Clip) (clips : HeldClips) → (¬ other ≡ serial) → is_current (with_clip serial clip clips) other (between other) ≡ is_current clips other (between other)
   current_apart serial other clip clips apart =
       let pair : Pair = computed_now clip (clips.touches) (pair_of clips serial) in
       ap (λ (p : Pair). stands clips.touches p.computed (chain_of p (between other)))

@@ -4,9 +4,9 @@ use Rattle.std.specs.Prelude.{◌≡◌, ℕ, [], Option, None}
 use Rattle.std.specs.Ordering.{nat_cmp}
 use Rattle.std.specs.FinMap.{FinMap, empty, insert, remove}
 use Rattle.element_tree.specs.declared.container.Container.{Container}
-use Rattle.kept_clips.specs.Touches.{last_touch}
+use Rattle.kept_clips.specs.Touches.{last_touch, with_spot}
 use Rattle.kept_clips.specs.Held.{HeldClips, with_pair, without_pair}
-use Rattle.kept_clips.specs.Seen.{Seen, sighting_of}
+use Rattle.kept_clips.specs.Seen.{Seen, sighting_of, with_room}
 use Rattle.kept_clips.specs.Looked.{MayBeSeen}
 use Rattle.candidate_index.specs.declared.index.Kept.{Kept}
 
@@ -32,6 +32,14 @@ without_findings serial it = record it { clips = without_pair serial (it.clips);
 -- from here on a registration counts as never computed
 abbrev pub with_expired : ℕ → HeldFindings → HeldFindings
 with_expired serial it = record it { kept = insert (it.kept) serial None }
+
+-- makes room for what was last seen of a spot and of all spots of its kind with lower numbers
+abbrev pub with_room_to_see : Container → HeldFindings → HeldFindings
+with_room_to_see spot it = record it { seen = with_room spot (it.seen) }
+
+-- the same, and they may be touched
+abbrev pub with_room_for : Container → HeldFindings → HeldFindings
+with_room_for spot it = record (with_room_to_see spot it) { clips = record (it.clips) { touches = with_spot spot (it.clips.touches) } }
 
 -- nothing changes, except that there may be room for more spots
 pub record IsRoomier (before now : HeldFindings) : Type 0 where

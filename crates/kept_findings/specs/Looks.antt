@@ -1,5 +1,5 @@
 -- Which spots were looked at in an update, so that none is looked at twice.
-use Rattle.std.specs.Prelude.{◌≡◌, ℕ, ◌<◌, Bool, true, false, List, length, replicate, slice_set, Some}
+use Rattle.std.specs.Prelude.{◌≡◌, ℕ, ◌<◌, ◌+◌, Bool, true, false, List, length, replicate, slice_set, count_by, Some}
 use Rattle.std.specs.List.{slice_index_or}
 use Rattle.element_tree.specs.declared.container.Container.{Container}
 use Rattle.element_tree.specs.declared.container.Container.TheVariants.{Element, Document}
@@ -18,6 +18,10 @@ is_looked it (Document document) = slice_index_or it.views document.0 false
 
 abbrev pub IsNoted : LookedAt → Container → Type 0
 IsNoted it spot = is_looked it spot ≡ true
+
+-- how many were looked at
+abbrev pub looked_count : LookedAt → ℕ
+looked_count it = count_by (λ is. is) it.nodes + count_by (λ is. is) it.views
 
 abbrev pub HasPlace : LookedAt → Container → Type 0
 HasPlace it (Element node) = node.0 < length it.nodes

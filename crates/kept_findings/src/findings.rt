@@ -1,6 +1,6 @@
 //! The cached findings.
 
-ghost use Rattle.std.specs.Prelude.{◌≡◌, ◌<◌, ◌+◌, ℕ, List, None, length, filter, Some, IsSome, IsTrue, IfOk, OnOk, OnErr};
+ghost use Rattle.std.specs.Prelude.{◌≡◌, ◌⊎◌, ◌<◌, ◌+◌, ℕ, List, None, length, filter, Some, IsSome, IsTrue, IfOk, OnOk, OnErr, IsOk};
 ghost use Rattle.std.specs.List.{All};
 ghost use Rattle.std.specs.FinMap.{insert, contains_key};
 ghost use Rattle.script_model.specs.Margins.{Margins as ScrollMargins};
@@ -18,7 +18,7 @@ ghost use Rattle.candidate_index.specs.Ranges.{IsPlaced};
 ghost use Rattle.candidate_index.specs.Registrations.{observer_of, serials_at, basis_for, finding_for, IsBetween};
 ghost use Rattle.candidate_index.specs.Asked.{asked_for, steps_for, all_asked, all_steps};
 ghost use Rattle.candidate_index.specs.Held.{is_stale_now};
-ghost use Rattle.kept_findings.specs.Held.{no_findings, with_findings, without_findings, with_expired, IsRoomier};
+ghost use Rattle.kept_findings.specs.Held.{no_findings, with_findings, without_findings, with_expired, with_room_to_see, with_room_for, IsRoomier};
 ghost use Rattle.kept_findings.specs.Looks.{AreLooked, no_looks};
 ghost use Rattle.kept_findings.specs.Walks.{AreChained, IsWalked};
 ghost use Rattle.kept_findings.specs.Views.{seen_by, seen_for};
@@ -113,11 +113,14 @@ impl KeptFindings {
         Looks::new(self.alloc, &self.seen)
     }
 
-    /// Makes room for the state of a spot. If an allocation fails, some of the room may have been made; nothing else changes
-    /// in either case.
+    /// Makes room for the state of a spot, and of all spots of its kind that have lower numbers. Fails only if an allocation
+    /// fails, never if there already is room; some of the room may have been made then. Nothing else changes in either case.
     pub fn add(&mut self, of: Container) -> Result<(), AllocError>
         ensures roomier { IsRoomier self.old self.new }
         ensures room { OnOk result (MayBeSeen self.new.seen self.new.clips of) }
+        ensures added { OnOk result (self.new ≡ with_room_for of self.old) }
+        ensures refused { OnErr result ((self.new ≡ self.old) ⊎ (self.new ≡ with_room_to_see of self.old)) }
+        ensures there { MayBeSeen self.old.seen self.old.clips of → IsOk result }
     {
         self.seen.add(of)?;
         self.clips.add(of)

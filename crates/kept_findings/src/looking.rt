@@ -1,6 +1,6 @@
 //! Looking at chains, each spot once in an update.
 
-ghost use Rattle.std.specs.Prelude.{◌≡◌, ◌⊎◌, ◌<◌, List, None, Some, length, IfSome};
+ghost use Rattle.std.specs.Prelude.{◌≡◌, ◌⊎◌, ◌<◌, ◌≤◌, ◌+◌, List, None, Some, length, IfSome};
 ghost use Rattle.std.specs.List.{All};
 ghost use Rattle.script_model.specs.Margins.{Margins as ScrollMargins};
 ghost use Rattle.element_tree.specs.declared.container.Container.{Container as ContainerOf};
@@ -8,7 +8,7 @@ ghost use Rattle.clip_chain.specs.Chains.{IsAbove};
 ghost use Rattle.intersection_observer.specs.Places.{IsStanding};
 ghost use Rattle.kept_clips.specs.Looked.{IsLeft, Looked, MayBeSeen};
 ghost use Rattle.candidate_index.specs.Registrations.{serials_at};
-ghost use Rattle.kept_findings.specs.Looks.{AreLooked, IsNoted};
+ghost use Rattle.kept_findings.specs.Looks.{AreLooked, is_looked, IsNoted, looked_count};
 ghost use Rattle.kept_findings.specs.Registered.{AreRegistered};
 ghost use Rattle.kept_findings.specs.Walks.{EachAlong, IsNot, AreChained, AlongChain, MayBeWalked, IsWalked};
 
@@ -29,6 +29,8 @@ impl KeptFindings {
         ensures known { AreLooked (S.scene scene.now) (S.rank scene.now) self.new.seen looks.new }
         ensures noted { IsNoted looks.new of }
         ensures more { (other : ContainerOf) → IsNoted looks.old other → IsNoted looks.new other }
+        ensures others { (spot : ContainerOf) → (¬ of ≡ spot) → is_looked looks.new spot ≡ is_looked looks.old spot }
+        ensures touches { self.new.clips.touches.count + looked_count looks.old ≤ self.old.clips.touches.count + looked_count looks.new }
         ensures left { (spot : ContainerOf) → (¬ of ≡ spot) → IsLeft self.old.seen self.new.seen self.old.clips.touches self.new.clips.touches spot }
     {
         if !looks.is_looked(of) {
@@ -74,6 +76,8 @@ impl KeptFindings {
         ensures known { AreLooked (S.scene scene.now) (S.rank scene.now) self.new.seen looks.new }
         ensures noted { EachAlong (IsNoted looks.new) (S.scene scene.now) of root }
         ensures more { (other : ContainerOf) → IsNoted looks.old other → IsNoted looks.new other }
+        ensures others { (spot : ContainerOf) → EachAlong (IsNot spot) (S.scene scene.now) of root → is_looked looks.new spot ≡ is_looked looks.old spot }
+        ensures touches { self.new.clips.touches.count + looked_count looks.old ≤ self.old.clips.touches.count + looked_count looks.new }
         ensures left { (spot : ContainerOf) → EachAlong (IsNot spot) (S.scene scene.now) of root → IsLeft self.old.seen self.new.seen self.old.clips.touches self.new.clips.touches spot }
     {
         self.look_at(scene, looks, of);
@@ -102,6 +106,9 @@ impl KeptFindings {
         ensures known { AreLooked (S.scene scene.now) (S.rank scene.now) self.new.seen looks.new }
         ensures noted { AlongChain (IsNoted looks.new) (S.scene scene.now) (S.standings scene.now) watchers.now.part registration.0 }
         ensures more { (other : ContainerOf) → IsNoted looks.old other → IsNoted looks.new other }
+        ensures others { (spot : ContainerOf) → AlongChain (IsNot spot) (S.scene scene.now) (S.standings scene.now) watchers.now.part registration.0 →
+            is_looked looks.new spot ≡ is_looked looks.old spot }
+        ensures touches { self.new.clips.touches.count + looked_count looks.old ≤ self.old.clips.touches.count + looked_count looks.new }
         ensures left { (spot : ContainerOf) → AlongChain (IsNot spot) (S.scene scene.now) (S.standings scene.now) watchers.now.part registration.0 →
             IsLeft self.old.seen self.new.seen self.old.clips.touches self.new.clips.touches spot }
     {
@@ -115,7 +122,7 @@ impl KeptFindings {
 
     /// Looks at each spot on the chains of an observer's registrations that wasn't looked at yet, both ends included, and
     /// records its current state. It is touched if its container, clip, box or being a scroll container differs from the last
-    /// known state, or there was none. Doesn't allocate.
+    /// known state, or there was none: once for each spot that is looked at, at most. Doesn't allocate.
     ///
     /// A chain is walked by the recorded states of its spots, so that the container of each spot is queried once.
     pub fn look<S: Scene + Scrolls>(
@@ -133,7 +140,11 @@ impl KeptFindings {
         ensures kept { self.new.kept ≡ self.old.kept }
         ensures known { AreLooked (S.scene scene.now) (S.rank scene.now) self.new.seen looks.new }
         ensures noted { All (AlongChain (IsNoted looks.new) (S.scene scene.now) (S.standings scene.now) watchers.now.part) (serials_at watchers.now.part watcher.0) }
+        ensures more { (other : ContainerOf) → IsNoted looks.old other → IsNoted looks.new other }
         ensures walked { All (IsWalked (S.scene scene.now) (S.standings scene.now) watchers.now.part self.new.seen) (serials_at watchers.now.part watcher.0) }
+        ensures others { (spot : ContainerOf) → All (AlongChain (IsNot spot) (S.scene scene.now) (S.standings scene.now) watchers.now.part) (serials_at watchers.now.part watcher.0) →
+            is_looked looks.new spot ≡ is_looked looks.old spot }
+        ensures touches { self.new.clips.touches.count + looked_count looks.old ≤ self.old.clips.touches.count + looked_count looks.new }
         ensures left { (spot : ContainerOf) → All (AlongChain (IsNot spot) (S.scene scene.now) (S.standings scene.now) watchers.now.part) (serials_at watchers.now.part watcher.0) →
             IsLeft self.old.seen self.new.seen self.old.clips.touches self.new.clips.touches spot }
         ensures registered { (margins : List ScrollMargins) → AreRegistered watchers.now.part margins self.old → AreRegistered watchers.now.part margins self.new }

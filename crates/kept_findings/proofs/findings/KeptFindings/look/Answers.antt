@@ -35,6 +35,9 @@ loop-registration-init g c = record {
   kept = refl;
   known = c.requires.known;
   left = λ spot apart. record { touch = refl; sighting = refl };
+  more = λ other is. is;
+  others = λ spot apart. refl;
+  touches = omega arith;
   noted = λ k below. absurd (omega (arith, below));
 }
 
@@ -57,6 +60,11 @@ loop-registration-preserved g c =
       left = λ spot apart.
           left_then before.seen was.seen now.seen before.clips.touches was.clips.touches now.clips.touches spot (so_far.left spot apart)
           (look.left spot (at_serial (AlongChain (IsNot spot) scene standings it) rs (serials_at it c.args.watcher.0) c.registrations-registrations.ensures.value apart c.loop-registration.registration-index none (omega arith)));
+      more = λ other is. look.more other (so_far.more other is);
+      others = λ spot apart.
+          look.others spot (at_serial (AlongChain (IsNot spot) scene standings it) rs (serials_at it c.args.watcher.0) c.registrations-registrations.ensures.value apart c.loop-registration.registration-index none (omega arith))
+          ∙ so_far.others spot apart;
+      touches = omega (arith, so_far.touches, look.touches);
       noted = below_more (λ k. AlongChain (IsNoted c.look_for.new.looks) scene standings it (get_or rs k none).0) c.loop-registration.registration-index
           (λ k below. along_weaker scene standings it (IsNoted c.loop-registration.looks) (IsNoted c.look_for.new.looks) look.more (get_or rs k none).0 (so_far.noted k below))
           look.noted;

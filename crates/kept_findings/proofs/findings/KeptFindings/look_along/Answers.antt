@@ -1,4 +1,4 @@
-use Rattle.std.proofs.Common.{◌≡◌, ◌∙◌, ◌∷◌, [], Some, inl, inr}
+use Rattle.std.proofs.Common.{◌≡◌, ◌∙◌, ◌∷◌, [], Some, inl, inr, arith}
 use Rattle.clip_chain.proofs.Leading.{above_outwards, none_above}
 use Rattle.kept_clips.specs.Looked.{MayBeSeen}
 use Rattle.kept_clips.proofs.Looking.{looked_then, may_after}
@@ -49,6 +49,10 @@ loop-next-init g c =
           left_then before.seen between.seen now.seen before.clips.touches between.clips.touches now.clips.touches spot (c.look_at.ensures.left spot along.0)
           (c.look_at-2.ensures.left spot (all_later (IsNot spot) c.requires.above.0 (c.args.root ∷ []) along.1).0);
       more = λ other is. c.look_at-2.ensures.more other (c.look_at.ensures.more other is);
+      others = λ spot apart.
+          let along = apart c.requires.above.0 c.requires.above.1 in
+          c.look_at-2.ensures.others spot (all_later (IsNot spot) c.requires.above.0 (c.args.root ∷ []) along.1).0 ∙ c.look_at.ensures.others spot along.0;
+      touches = omega (arith, c.look_at.ensures.touches, c.look_at-2.ensures.touches);
     }
 
 pub loop-next-preserved : goal.loop-next-preserved
@@ -74,6 +78,12 @@ loop-next-preserved g c =
           (at_next scene c.args.root c.args.of (IsNoted c.loop-next.looks) (IsNot spot) c.loop-next.spot c.in-Some.next so_far.passed e.0 e.1
           (above_outwards scene c.args.root c.loop-next.spot c.in-Some.next e.0 e.1 so_far.above) apart c.requires.above.0 c.requires.above.1));
       more = λ other is. look.more other (so_far.more other is);
+      others = λ spot apart.
+          look.others spot
+          (at_next scene c.args.root c.args.of (IsNoted c.loop-next.looks) (IsNot spot) c.loop-next.spot c.in-Some.next so_far.passed e.0 e.1
+          (above_outwards scene c.args.root c.loop-next.spot c.in-Some.next e.0 e.1 so_far.above) apart c.requires.above.0 c.requires.above.1)
+          ∙ so_far.others spot apart;
+      touches = omega (arith, so_far.touches, look.touches);
     }
 
 pub returns-clause-noted : goal.returns-clause-noted

@@ -1,8 +1,8 @@
-use Rattle.std.proofs.Common.{◌≡◌}
+use Rattle.std.proofs.Common.{◌≡◌, ◌≤◌, ◌+◌}
 use Rattle.element_tree.specs.declared.container.Container.{Container}
 use Rattle.clip_chain.specs.Chains.{IsAbove}
 use Rattle.kept_clips.specs.Looked.{IsLeft, Looked}
-use Rattle.kept_findings.specs.Looks.{IsNoted, AreLooked}
+use Rattle.kept_findings.specs.Looks.{is_looked, IsNoted, looked_count, AreLooked}
 use Rattle.kept_findings.specs.Walks.{EachAlong, IsNot}
 use Rattle.kept_findings.proofs.Along.{Passes}
 use Rattle.kept_findings.proofs.findings.KeptFindings.look_along.Given as goal
@@ -20,6 +20,8 @@ invariant-loop-next g l =
       passed : Passes scene l.root l.fn.of (IsNoted l.looks) l.spot;
       left : (spot : Container) → EachAlong (IsNot spot) scene l.fn.of l.root → IsLeft l.fn.self.seen l.self.seen l.fn.self.clips.touches l.self.clips.touches spot;
       more : (other : Container) → IsNoted l.fn.looks other → IsNoted l.looks other;
+      others : (spot : Container) → EachAlong (IsNot spot) scene l.fn.of l.root → is_looked l.looks spot ≡ is_looked l.fn.looks spot;
+      touches : l.self.clips.touches.count + looked_count l.fn.looks ≤ l.fn.self.clips.touches.count + looked_count l.looks;
     }
 
 abbrev pub decreases-loop-next : goal.decreases-loop-next

@@ -66,6 +66,23 @@ returns-clause-noted g c =
 pub returns-in_default-clause-left : goal.returns-in_default-clause-left
 returns-in_default-clause-left g c = λ spot apart. record { touch = refl; sighting = refl }
 
+pub returns-in_default-clause-others : goal.returns-in_default-clause-others
+returns-in_default-clause-others g c = λ spot apart. refl
+
+pub returns-clause-others : goal.returns-clause-others
+returns-clause-others g c = λ spot apart.
+    let scene = g.S.Geometry.scene c.args.scene.now in
+    let standings = g.S.Scene.standings c.args.scene.now in
+    let it = c.args.watchers.now.part in
+    let serial = c.args.registration.0 in
+    let root = seen_root c.root_of-root.result in
+    let target = c.target_of-target.result.0 in
+    c.look_along.ensures.others spot
+    (subst (EachAlong (IsNot spot) scene (element_spot target)) (sym c.spot_of_root.ensures)
+    (where_chained (standings root target) (EachAlong (IsNot spot) scene (element_spot target) (spot_of_root root)) (sym c.standing.ensures ∙ c.in-Chained.is)
+    (along_there it serial (IsNot spot) scene standings root target
+    (root_known it serial c.watcher_of.result.0 root c.watcher_of.ensures.value c.root_of-root.ensures) (target_known it serial target c.target_of-target.ensures) apart)))
+
 pub returns-clause-left : goal.returns-clause-left
 returns-clause-left g c = λ spot apart.
     let scene = g.S.Geometry.scene c.args.scene.now in
