@@ -20,7 +20,7 @@ use px_units::Point;
 use scrolling::Scrolls;
 use std::alloc::{AllocError, Global};
 
-/// Returns a map of the scroll offsets in force of nodes whose stored position isn't 0, by their numbers. Each is exact only
+/// Returns a map of the scroll offsets in force of exactly the nodes whose stored position isn't 0. Each is exact only
 /// if the boxes of the node's document are up to date (`refresh_in`) and no length of its viewport is above the largest one.
 ///
 /// # Errors
