@@ -1,5 +1,5 @@
 -- Once both walks were in the tree of a root element.
-use Rattle.std.proofs.Common.{◌≡◌, ◌+◌, ◌≤◌, ℕ, Option, Some, None, true, false, refl, ap, sym, ◌∙◌, arith}
+use Rattle.std.proofs.Common.{◌≡◌, ◌+◌, ℕ, Option, Some, None, true, false, refl, ap, sym, ◌∙◌, arith}
 use Rattle.std.proofs.lemmas.Bool.{false≢true}
 use Rattle.std.specs.Prelude.{not, ◌&&◌, ◌==◌, is_some}
 use Rattle.layout_model.specs.Nodes.{Node, is_in_path, IsLinked, IsShallow}

@@ -18,7 +18,7 @@ use Rattle.kept_layout.specs.Slots.{slot_in}
 use Rattle.kept_layout.specs.Sound.{IsSound, IsReady}
 use Rattle.kept_layout.specs.Due.{is_due_at, is_due as is_due_with}
 use Rattle.page_boxes.specs.Fresh.{IsFreshIn}
-use Rattle.page_boxes.specs.Kept.{AreKept, is_due}
+use Rattle.page_boxes.specs.Kept.{AreKept, LeavesUnboxed, is_due}
 use Rattle.page_boxes.specs.LaidOut.{IsLaidOut, ChangesOnlyIn}
 use Rattle.page_boxes.proofs.Parents.{some_found, child_boxed}
 use Rattle.page_boxes.proofs.Owners.{owner_inside}
@@ -192,6 +192,16 @@ module _ (tree : Tree) (framed : AreFramed tree) (screen : Screen) (document : �
     inputs_inside n inside =
         let own = framed.owners.roots document root rooted in
         inputs_found tree screen n document (owner_inside tree framed root n (ap (λ at. is_in_path at root n) nodes ∙ inside) ∙ own.owner) ∙ sym (inputs_shown n)
+
+    -- elements without a box
+    pub unboxed_here : (before after : List Slot) → ((n : ℕ) → inputs_in at root inputs n ≡ None → slot_in after n ≡ slot_in before n) → LeavesUnboxed tree screen before after
+    unboxed_here before after same n none = same n (by_inputs (inputs_in at root inputs n) refl)
+      where
+        by_inputs : (found : Option Inputs) → inputs_in at root inputs n ≡ found → inputs_in at root inputs n ≡ None
+        by_inputs None e = e
+        by_inputs (Some own) e =
+            let both : None ≡ Some own = sym none ∙ inputs_inside n (boxed_inside at root inputs n (ap is_some e)) ∙ e in
+            cc
 
   -- each node in the tree of the root element is an element
   alone : (n : ℕ) → (nodes_of tree n).parent ≡ None → is_in_path (nodes_of tree) root n ≡ true → n ≡ root

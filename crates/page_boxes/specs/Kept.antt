@@ -28,6 +28,10 @@ pub record FillsOnly (old new : List Slot) : Type 0 where
   pub marks : (n : ℕ) → (slot_in old n).marked ≡ false → (slot_in new n).marked ≡ false
   pub found : (n : ℕ) → is_some (slot_in old n).found ≡ true → is_some (slot_in new n).found ≡ true
 
+-- a computation writes no slot of an element without a box
+abbrev pub LeavesUnboxed : Tree → Screen → List Slot → List Slot → Type 0
+LeavesUnboxed tree screen old new = (n : ℕ) → inputs_of tree screen n ≡ None → slot_in new n ≡ slot_in old n
+
 -- what is held for each element that has a box and isn't due is that box as it is now
 abbrev pub IsExact : Tree → Screen → List Slot → Type 0
 IsExact tree screen kept =

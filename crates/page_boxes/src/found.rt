@@ -8,7 +8,7 @@ ghost use Rattle.block_layout.specs.Seen.{as_point};
 ghost use Rattle.block_layout.specs.Trees.{layout_tree};
 ghost use Rattle.kept_layout.specs.Measures.{IsSized};
 ghost use Rattle.page_boxes.specs.Fresh.{HoldsAll};
-ghost use Rattle.page_boxes.specs.Offsets.{AreOffsets, AreInForce};
+ghost use Rattle.page_boxes.specs.Offsets.{AreOffsets, AreInForce, AreScrolled};
 ghost use Rattle.page_boxes.specs.Ranges.{IsOffset};
 
 use crate::in_force::{boxed_offset, is_at_start};
@@ -20,7 +20,7 @@ use px_units::Point;
 use scrolling::Scrolls;
 use std::alloc::{AllocError, Global};
 
-/// Returns a map of the scroll offsets in force of nodes whose stored position isn't 0, by their numbers. Each is exact only
+/// Returns a map of the scroll offsets in force of exactly the nodes whose stored position isn't 0. Each is exact only
 /// if the boxes of the node's document are up to date (`refresh_in`) and no length of its viewport is above the largest one.
 ///
 /// # Errors
@@ -34,6 +34,7 @@ pub fn boxed_offsets<P: Styled>(
 ) -> Result<NumberMap<Point>, AllocError>
     ensures value { let at = layout_tree P.style P.kind tree.now.nodes in (view : View) → IsSized view →
         HoldsAll at view boxes.now → IfOk result (λ found. AreInForce at (stored_in scrolls.now) view found) }
+    ensures scrolled { IfOk result (λ found. AreScrolled (length tree.now.nodes) scrolls.now found) }
     ensures range { IfOk result (λ found. AreOffsets found) }
 {
     let mut found = NumberMap::new(alloc);

@@ -8,7 +8,7 @@ ghost use Rattle.block_layout.specs.Seen.{seen_inputs};
 ghost use Rattle.container_model.specs.Seen.{seen_container};
 ghost use Rattle.page_boxes.specs.Around.{rests_on, LeavesOthers};
 ghost use Rattle.page_boxes.specs.Fresh.{IsFresh, IsFreshIn, IsFreshAbove, IsFreshFor};
-ghost use Rattle.page_boxes.specs.Kept.{AreKept, FillsOnly, is_due, due_count};
+ghost use Rattle.page_boxes.specs.Kept.{AreKept, FillsOnly, LeavesUnboxed, is_due, due_count};
 ghost use Rattle.page_boxes.specs.LaidOut.{is_marked, IsLaidOut, AreLaidOut, GoesOn, ChangesOnlyIn};
 ghost use Rattle.page_boxes.specs.Pages.{seen_screen};
 
@@ -52,9 +52,10 @@ fn lay_out<L: Ledger>(
     ensures left { ChangesOnlyIn page.now.tree (document.0 ∷ []) boxes.old boxes.new }
     ensures kept { AreKept page.now.tree boxes.new }
     ensures slots { length boxes.new ≡ length boxes.old }
+    ensures unboxed { LeavesUnboxed page.now.tree (seen_screen screen) boxes.old boxes.new }
     ensures fills { FillsOnly boxes.old boxes.new }
     ensures ticks { steps.new + due_count page.now.tree (seen_screen screen) boxes.new
-        ≤ steps.old + due_count page.now.tree (seen_screen screen) boxes.old }
+        ≡ steps.old + due_count page.now.tree (seen_screen screen) boxes.old }
 {
     let Some(root) = page.root(document) else {
         return;
@@ -85,9 +86,10 @@ fn lay_out_once<L: Ledger>(
     ensures left { ChangesOnlyIn page.now.tree (document.0 ∷ []) boxes.old boxes.new }
     ensures kept { AreKept page.now.tree boxes.new }
     ensures slots { length boxes.new ≡ length boxes.old }
+    ensures unboxed { LeavesUnboxed page.now.tree (seen_screen screen) boxes.old boxes.new }
     ensures fills { FillsOnly boxes.old boxes.new }
     ensures ticks { steps.new + due_count page.now.tree (seen_screen screen) boxes.new
-        ≤ steps.old + due_count page.now.tree (seen_screen screen) boxes.old }
+        ≡ steps.old + due_count page.now.tree (seen_screen screen) boxes.old }
 {
     if laid_out.has(document) {
         return;
@@ -118,9 +120,10 @@ fn lay_out_up<L: Ledger>(
     ensures left { ChangesOnlyIn page.now.tree (way_down high page.now.tree document.0) boxes.old boxes.new }
     ensures kept { AreKept page.now.tree boxes.new }
     ensures slots { length boxes.new ≡ length boxes.old }
+    ensures unboxed { LeavesUnboxed page.now.tree (seen_screen screen) boxes.old boxes.new }
     ensures fills { FillsOnly boxes.old boxes.new }
     ensures ticks { steps.new + due_count page.now.tree (seen_screen screen) boxes.new
-        ≤ steps.old + due_count page.now.tree (seen_screen screen) boxes.old }
+        ≡ steps.old + due_count page.now.tree (seen_screen screen) boxes.old }
 {
     if high == 0 {
         return;
@@ -139,16 +142,17 @@ fn lay_out_up<L: Ledger>(
 }
 
 /// Recomputes the page's boxes that are due, for this screen of `top`: each box of the page is then up to date, and none is
-/// due. Requires that the cache is sound for the page, and keeps it so. It takes at most one step for each box that was due,
-/// sets no mark, drops no box, and doesn't allocate.
+/// due. Requires that the cache is sound for the page, and keeps it so. It takes one step for each box that was due, sets no
+/// mark, drops no box, changes nothing for an element without a box, and doesn't allocate.
 pub fn refresh<L: Ledger>(boxes: &mut Kept, page: &PageTree, screen: Screen, steps: &mut Steps<L>)
     requires { AreKept page.now.tree boxes.old }
     ensures fresh { IsFresh page.now.tree (seen_screen screen) boxes.new }
     ensures kept { AreKept page.now.tree boxes.new }
     ensures done { (n : ℕ) → is_due page.now.tree (seen_screen screen) boxes.new n ≡ false }
     ensures slots { length boxes.new ≡ length boxes.old }
+    ensures unboxed { LeavesUnboxed page.now.tree (seen_screen screen) boxes.old boxes.new }
     ensures fills { FillsOnly boxes.old boxes.new }
-    ensures ticks { steps.new + due_count page.now.tree (seen_screen screen) boxes.new ≤ steps.old + due_count page.now.tree (seen_screen screen) boxes.old }
+    ensures ticks { steps.new + due_count page.now.tree (seen_screen screen) boxes.new ≡ steps.old + due_count page.now.tree (seen_screen screen) boxes.old }
 {
     let mut laid_out = LaidOut::new();
     let count = page.document_count();
@@ -181,8 +185,9 @@ fn refresh_document<L: Ledger>(
     ensures left { (high : ℕ) → 64 ≤ high → ChangesOnlyIn page.now.tree (way_down high page.now.tree document.0) boxes.old boxes.new }
     ensures kept { AreKept page.now.tree boxes.new }
     ensures slots { length boxes.new ≡ length boxes.old }
+    ensures unboxed { LeavesUnboxed page.now.tree (seen_screen screen) boxes.old boxes.new }
     ensures fills { FillsOnly boxes.old boxes.new }
-    ensures ticks { steps.new + due_count page.now.tree (seen_screen screen) boxes.new ≤ steps.old + due_count page.now.tree (seen_screen screen) boxes.old }
+    ensures ticks { steps.new + due_count page.now.tree (seen_screen screen) boxes.new ≡ steps.old + due_count page.now.tree (seen_screen screen) boxes.old }
 {
     let mut laid_out = LaidOut::new();
     let count = page.document_count();
@@ -192,7 +197,8 @@ fn refresh_document<L: Ledger>(
 /// Recomputes the boxes that are due in a document and its ancestor documents, for this screen of `top`: those of the
 /// document and of the one that its frame is in are then up to date, and boxes of other documents are unchanged. A document
 /// that isn't Active has no boxes; those of its ancestor documents are recomputed. Requires that the cache is sound for the
-/// page, and keeps it so. It takes at most one step for each box that was due, and doesn't allocate.
+/// page, and keeps it so. It takes one step for each box that was due and no longer is, changes nothing for an element
+/// without a box, and doesn't allocate.
 pub fn refresh_in<L: Ledger>(
     boxes: &mut Kept,
     page: &PageTree,
@@ -206,8 +212,9 @@ pub fn refresh_in<L: Ledger>(
     ensures left { LeavesOthers page.now.tree (Some document.0) boxes.old boxes.new }
     ensures kept { AreKept page.now.tree boxes.new }
     ensures slots { length boxes.new ≡ length boxes.old }
+    ensures unboxed { LeavesUnboxed page.now.tree (seen_screen screen) boxes.old boxes.new }
     ensures fills { FillsOnly boxes.old boxes.new }
-    ensures ticks { steps.new + due_count page.now.tree (seen_screen screen) boxes.new ≤ steps.old + due_count page.now.tree (seen_screen screen) boxes.old }
+    ensures ticks { steps.new + due_count page.now.tree (seen_screen screen) boxes.new ≡ steps.old + due_count page.now.tree (seen_screen screen) boxes.old }
 {
     if page.is_active(document) {
         refresh_document(boxes, page, screen, document, steps);
@@ -218,8 +225,8 @@ pub fn refresh_in<L: Ledger>(
 
 /// Recomputes the boxes that are due and that a reading of an element or a document depends on, for this screen of `top`:
 /// those of one document and its ancestor documents are then up to date, and boxes of other documents are unchanged. Requires
-/// that the cache is sound for the page, and keeps it so. It takes at most one step for each box that was due, and doesn't
-/// allocate.
+/// that the cache is sound for the page, and keeps it so. It takes one step for each box that was due and no longer is,
+/// changes nothing for an element without a box, and doesn't allocate.
 pub fn refresh_for<L: Ledger>(
     boxes: &mut Kept,
     page: &PageTree,
@@ -232,8 +239,9 @@ pub fn refresh_for<L: Ledger>(
     ensures left { LeavesOthers page.now.tree (rests_on page.now.tree (seen_container container)) boxes.old boxes.new }
     ensures kept { AreKept page.now.tree boxes.new }
     ensures slots { length boxes.new ≡ length boxes.old }
+    ensures unboxed { LeavesUnboxed page.now.tree (seen_screen screen) boxes.old boxes.new }
     ensures fills { FillsOnly boxes.old boxes.new }
-    ensures ticks { steps.new + due_count page.now.tree (seen_screen screen) boxes.new ≤ steps.old + due_count page.now.tree (seen_screen screen) boxes.old }
+    ensures ticks { steps.new + due_count page.now.tree (seen_screen screen) boxes.new ≡ steps.old + due_count page.now.tree (seen_screen screen) boxes.old }
 {
     let around = match container {
         Container::Element(node) => Some(node),

@@ -1,6 +1,6 @@
 //! The elements and documents of a page with their cached boxes.
 
-ghost use Rattle.std.specs.Prelude.{◌≡◌, ◌+◌, ◌<◌, ◌≤◌, ◌++◌, ◌∷◌, ◌||◌, [], ℕ, true, false, length, option_map, unsigned_abs, Some, None, IfOk, IfErr, OnOk, OnErr};
+ghost use Rattle.std.specs.Prelude.{◌≡◌, ◌+◌, ◌<◌, ◌++◌, ◌∷◌, ◌||◌, [], ℕ, true, false, length, option_map, unsigned_abs, Some, None, IfOk, IfErr, OnOk, OnErr};
 ghost use Rattle.std.specs.Option.{ForSome};
 ghost use Rattle.style_values.specs.Ranges.{IsAllowed};
 ghost use Rattle.style_values.specs.Seen.{seen_axis, seen_declaration};
@@ -18,7 +18,7 @@ ghost use Rattle.container_model.specs.Seen.{seen_container};
 ghost use Rattle.page_tree.specs.Steps.{IsContainerIn};
 ghost use Rattle.page_boxes.specs.Around.{rests_on, LeavesOthers};
 ghost use Rattle.page_boxes.specs.Fresh.{IsFresh, IsFreshIn, IsFreshAbove, IsFreshFor};
-ghost use Rattle.page_boxes.specs.Kept.{AreKept, FillsOnly, IsExact, is_due, due_count};
+ghost use Rattle.page_boxes.specs.Kept.{AreKept, FillsOnly, LeavesUnboxed, IsExact, is_due, due_count};
 ghost use Rattle.page_boxes.specs.Pages.{seen_screen};
 ghost use Rattle.page_layout.specs.Marks.{element_of, is_over, MarksOnly, MarksNone};
 
@@ -289,20 +289,23 @@ impl LaidTree {
     }
 
     /// Recomputes the boxes that are due, for this screen of `top`: each box of the page is then up to date, and none is due.
-    /// It takes at most one step for each box that was due, sets no mark, drops no box, and doesn't allocate.
+    /// It takes one step for each box that was due, sets no mark, drops no box, changes nothing for an element without a box,
+    /// and doesn't allocate.
     pub fn refresh<L: Ledger>(&mut self, screen: Screen, steps: &mut Steps<L>)
         ensures fresh { IsFresh self.new.elements.tree (seen_screen screen) self.new.kept }
         ensures done { (n : ℕ) → is_due self.new.elements.tree (seen_screen screen) self.new.kept n ≡ false }
         ensures same { self.new.elements ≡ self.old.elements }
+        ensures unboxed { LeavesUnboxed self.old.elements.tree (seen_screen screen) self.old.kept self.new.kept }
         ensures fills { FillsOnly self.old.kept self.new.kept }
-        ensures ticks { steps.new + due_count self.old.elements.tree (seen_screen screen) self.new.kept ≤ steps.old + due_count self.old.elements.tree (seen_screen screen) self.old.kept }
+        ensures ticks { steps.new + due_count self.old.elements.tree (seen_screen screen) self.new.kept ≡ steps.old + due_count self.old.elements.tree (seen_screen screen) self.old.kept }
     {
         refresh(&mut self.boxes, &self.page, screen, steps);
     }
 
     /// Recomputes the boxes that are due in a document and its ancestor documents, for this screen of `top`: those of the
     /// document and of the one that its frame is in are then up to date, and boxes of other documents are unchanged. It takes
-    /// at most one step for each box that was due, and doesn't allocate.
+    /// one step for each box that was due and no longer is, changes nothing for an element without a box, and doesn't
+    /// allocate.
     pub fn refresh_in<L: Ledger>(
         &mut self,
         screen: Screen,
@@ -313,15 +316,17 @@ impl LaidTree {
         ensures above { IsFreshAbove self.new.elements.tree (seen_screen screen) self.new.kept document.0 }
         ensures left { LeavesOthers self.old.elements.tree (Some document.0) self.old.kept self.new.kept }
         ensures same { self.new.elements ≡ self.old.elements }
+        ensures unboxed { LeavesUnboxed self.old.elements.tree (seen_screen screen) self.old.kept self.new.kept }
         ensures fills { FillsOnly self.old.kept self.new.kept }
-        ensures ticks { steps.new + due_count self.old.elements.tree (seen_screen screen) self.new.kept ≤ steps.old + due_count self.old.elements.tree (seen_screen screen) self.old.kept }
+        ensures ticks { steps.new + due_count self.old.elements.tree (seen_screen screen) self.new.kept ≡ steps.old + due_count self.old.elements.tree (seen_screen screen) self.old.kept }
     {
         refresh_in(&mut self.boxes, &self.page, screen, document, steps);
     }
 
     /// Recomputes the boxes that are due and that a reading of an element or a document depends on, for this screen of `top`:
     /// those of one document and its ancestor documents are then up to date, and boxes of other documents are unchanged. It
-    /// takes at most one step for each box that was due, and doesn't allocate.
+    /// takes one step for each box that was due and no longer is, changes nothing for an element without a box, and doesn't
+    /// allocate.
     pub fn refresh_for<L: Ledger>(
         &mut self,
         screen: Screen,
@@ -331,8 +336,9 @@ impl LaidTree {
         ensures fresh { IsFreshFor self.new.elements.tree (seen_screen screen) self.new.kept (seen_container container) }
         ensures left { LeavesOthers self.old.elements.tree (rests_on self.old.elements.tree (seen_container container)) self.old.kept self.new.kept }
         ensures same { self.new.elements ≡ self.old.elements }
+        ensures unboxed { LeavesUnboxed self.old.elements.tree (seen_screen screen) self.old.kept self.new.kept }
         ensures fills { FillsOnly self.old.kept self.new.kept }
-        ensures ticks { steps.new + due_count self.old.elements.tree (seen_screen screen) self.new.kept ≤ steps.old + due_count self.old.elements.tree (seen_screen screen) self.old.kept }
+        ensures ticks { steps.new + due_count self.old.elements.tree (seen_screen screen) self.new.kept ≡ steps.old + due_count self.old.elements.tree (seen_screen screen) self.old.kept }
     {
         refresh_for(&mut self.boxes, &self.page, screen, container, steps);
     }

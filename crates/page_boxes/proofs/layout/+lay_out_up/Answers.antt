@@ -74,6 +74,9 @@ returns-in-Some-clause-left g t c =
     c.lay_out_up.ensures.left)
     c.lay_out_once.ensures.left
 
+pub returns-in-Some-clause-unboxed : goal.returns-in-Some-clause-unboxed
+returns-in-Some-clause-unboxed g t c n none = c.lay_out_once.ensures.unboxed n none ∙ c.lay_out_up.ensures.unboxed n none
+
 pub returns-in-None-clause-left : goal.returns-in-None-clause-left
 returns-in-None-clause-left g t c =
     changes_first c.args.page.now.tree c.args.document.0 c.args.high (c.args.high - 1) (omega arith)

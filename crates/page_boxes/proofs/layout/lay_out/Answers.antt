@@ -12,7 +12,7 @@ use Rattle.page_tree.specs.Items.{style_in, kind_in}
 use Rattle.page_boxes.specs.Pages.{seen_screen, seen_pair}
 use Rattle.page_boxes.proofs.Pages.{count_here}
 use Rattle.page_boxes.proofs.Undue.{fills_none, fills_fresh}
-use Rattle.page_boxes.proofs.Renewed.{no_root, rootless_here, rootless_laid_out, laid_out_here, others_here, kept_here, inputs_inside, ready_before, left_here}
+use Rattle.page_boxes.proofs.Renewed.{no_root, rootless_here, rootless_laid_out, laid_out_here, others_here, kept_here, inputs_inside, unboxed_here, ready_before, left_here}
 use Rattle.page_boxes.proofs.layout.lay_out.Goals as goal
 
 -- a document that shows nothing
@@ -83,6 +83,18 @@ returns-clause-left g c =
     let at = layout_tree style_in kind_in c.tree.result.now.nodes in
     let rooted = sym c.root.ensures.value ∙ ap (option_map number) c.in-Some.is in
     left_here tree framed screen c.args.document.0 c.requires.active pair shown at c.tree.ensures.nodes c.in-Some.root.0 rooted
+    _ c.root_inputs.ensures.seen c.args.boxes.now c.refresh.new.self c.refresh.ensures.others
+
+pub returns-clause-unboxed : goal.returns-clause-unboxed
+returns-clause-unboxed g c =
+    let tree = c.args.page.now.tree in
+    let framed = c.root.ensures.framed in
+    let screen = seen_screen c.args.screen in
+    let pair = seen_pair c.in-Some-framed_size.size in
+    let shown = c.in-Some-framed_size.ensures.value c.requires.around in
+    let at = layout_tree style_in kind_in c.tree.result.now.nodes in
+    let rooted = sym c.root.ensures.value ∙ ap (option_map number) c.in-Some.is in
+    unboxed_here tree framed screen c.args.document.0 c.requires.active pair shown at c.tree.ensures.nodes c.in-Some.root.0 rooted
     _ c.root_inputs.ensures.seen c.args.boxes.now c.refresh.new.self c.refresh.ensures.others
 
 pub returns-clause-kept : goal.returns-clause-kept

@@ -15,11 +15,12 @@ loop-document-init g c =
       kept = c.requires;
       slots = refl;
       fills = fills_none c.args.boxes.now;
+      unboxed = λ n none. refl;
       count = ap (λ marks. length marks) c.new-laid_out.ensures;
       laid_out = subst (λ marks. AreLaidOut c.args.page.now.tree (seen_screen c.args.screen) marks c.args.boxes.now) (sym c.new-laid_out.ensures)
           (none_laid_out c.args.page.now.tree (seen_screen c.args.screen) c.args.boxes.now);
       marked = λ document low. absurd (omega arith);
-      ticks = omega arith;
+      ticks = refl;
     }
 
 pub lay_out_up-requires-clause-leads : goal.lay_out_up-requires-clause-leads
@@ -32,6 +33,7 @@ loop-document-preserved g c = record {
   kept = c.lay_out_up.ensures.kept;
   slots = c.lay_out_up.ensures.slots ∙ c.loop-document.invariant.slots;
   fills = fills_on c.args.boxes.now c.loop-document.boxes c.lay_out_up.new.boxes c.loop-document.invariant.fills c.lay_out_up.ensures.fills;
+  unboxed = λ n none. c.lay_out_up.ensures.unboxed n none ∙ c.loop-document.invariant.unboxed n none;
   count = c.lay_out_up.ensures.goes.count;
   laid_out = c.lay_out_up.ensures.goes.laid_out;
   marked =
