@@ -75,10 +75,13 @@ impl Names {
         }
     }
 
-    /// Reserves capacity for `count` names, so that assigning them doesn't allocate.
+    /// Reserves capacity for `count` names, so that assigning them doesn't allocate. The capacity never shrinks, not even if
+    /// an allocation fails, and none is needed if there already is enough.
     pub fn reserve(&mut self, count: usize) -> Result<(), AllocError>
         ensures roomy { OnOk result (count ≤ self.new.room) }
         ensures same { self.new.list ≡ self.old.list }
+        ensures kept { self.old.room ≤ self.new.room }
+        ensures there { count ≤ self.old.room → IsOk result }
     {
         self.things.reserve(count)?;
         self.firsts.reserve(count)
