@@ -13,3 +13,4 @@ pub mod Settled
 pub mod Updates
 pub mod Numbers
 pub mod Totals
+pub mod Current

@@ -53,6 +53,12 @@ module _ (scene : Scene) (standings : Root → ℕ → Standing) (it : Intersect
   touches_if NoBox serial clips = refl
   touches_if Chained serial clips = touches_once (is_current clips serial (between serial)) serial (clip_between scene (between serial)) clips
 
+  pub numbered_asked : (serial : ℕ) (clips : HeldClips) → AreNumbered clips → AreNumbered (after serial clips)
+  numbered_asked serial clips numbered = numbered_if (standing_for standings it serial) serial clips numbered
+
+  pub touches_asked : (serial : ℕ) (clips : HeldClips) → (after serial clips).touches ≡ clips.touches
+  touches_asked serial clips = touches_if (standing_for standings it serial) serial clips
+
   -- clips that are asked for make no other take more
   pub less_all : (serials : List ℕ) (other : ℕ) (clips : HeldClips) → cost other (all_asked scene standings it between serials clips) ≤ cost other clips
   less_all [] other clips = omega arith
@@ -69,8 +75,7 @@ module _ (scene : Scene) (standings : Root → ℕ → Standing) (it : Intersect
       let rest : cost serial (all_asked scene standings it between serials next) ≤ cost serial next = less_all serials serial next in
       let none : cost serial next ≡ 0 = none_again scene standings it between clips numbered below serial in
       All-cons (λ other. cost other (all_asked scene standings it between serials next) ≡ 0) serial serials (omega (arith, rest, none))
-      (none_left serials next (numbered_if (standing_for standings it serial) serial clips numbered)
-      (subst (λ (t : Touched). t.count < last_number) (sym (touches_if (standing_for standings it serial) serial clips)) below))
+      (none_left serials next (numbered_asked serial clips numbered) (subst (λ (t : Touched). t.count < last_number) (sym (touches_asked serial clips)) below))
 
   -- the pair of another one stays
   apart_once : (b : Bool) (serial other : ℕ) (clip : Clip) (clips : HeldClips) → (¬ other ≡ serial) → pair_of (cond b clips (with_clip serial clip clips)) other ≡ pair_of clips other
@@ -109,6 +114,9 @@ module _ (scene : Scene) (standings : Root → ℕ → Standing) (it : Intersect
   apart_if Apart serial other clips apart = refl
   apart_if NoBox serial other clips apart = refl
   apart_if Chained serial other clips apart = apart_once (is_current clips serial (between serial)) serial other (clip_between scene (between serial)) clips apart
+
+  pub apart_asked : (serial other : ℕ) (clips now : HeldClips) → (¬ other ≡ serial) → now ≡ after serial clips → pair_of now other ≡ pair_of clips other
+  apart_asked serial other clips now apart is = ap (λ (held : HeldClips). pair_of held other) is ∙ apart_if (standing_for standings it serial) serial other clips apart
 
   apart_all : (serials : List ℕ) (other : ℕ) (clips : HeldClips) → All (λ serial. ¬ other ≡ serial) serials → pair_of (all_asked scene standings it between serials clips) other ≡ pair_of clips other
   apart_all [] other clips apart = refl
@@ -203,6 +211,10 @@ module _ (scene : Scene) (standings : Root → ℕ → Standing) (it : Intersect
 pub with_touches : (before now : HeldClips) (touches : Touched) → now.pairs ≡ before.pairs → touches ≡ now.touches → now ≡ record before { touches = touches }
 with_touches before now touches pairs same = λ i. record { touches = sym same i; pairs = pairs i }
 
--- pairs that stay are as computed
+-- pairs that stay
+pub pair_same : (before now : HeldClips) → now.pairs ≡ before.pairs → (serial : ℕ) → pair_of now serial ≡ pair_of before serial
+pair_same before now same serial = ap (λ pairs. pair_of (record before { pairs = pairs }) serial) same
+
+-- and are as computed
 pub computed_same : (before now : HeldClips) → now.pairs ≡ before.pairs → KeepsComputed before now
 computed_same before now same serial some = subst (λ pairs. IsSome (pair_of (record before { pairs = pairs }) serial).computed) (sym same) some

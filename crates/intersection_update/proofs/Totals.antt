@@ -1,5 +1,5 @@
 -- The steps that an update takes, one observer after the other.
-use Rattle.std.proofs.Common.{◌≡◌, ◌∙◌, ℕ, suc, ◌<◌, ◌≤◌, ◌+◌, ◌*◌, Bool, true, false, cond, ◌&&◌, nat_lt, nat_le, min, List, [], ◌∷◌, ◌++◌, length, take, Option, Some, None, refl, ap, sym, subst, inl, inr, arith, append-nil}
+use Rattle.std.proofs.Common.{◌≡◌, ◌∙◌, ℕ, zero, suc, ◌<◌, ◌≤◌, ◌+◌, ◌-◌, ◌*◌, Bool, true, false, cond, ◌&&◌, nat_lt, nat_le, min, List, [], ◌∷◌, ◌++◌, length, take, Option, Some, None, refl, ap, sym, subst, inl, inr, arith, append-nil}
 use Rattle.std.specs.Prelude.{All, sum_by, count_by}
 use Rattle.std.specs.List.{flat_map, list_all}
 use Rattle.std.proofs.lemmas.Bool.{false≢true}
@@ -28,7 +28,7 @@ use Rattle.kept_clips.specs.Seen.{Seen}
 use Rattle.kept_clips.specs.Looked.{ChangesByLooks}
 use Rattle.candidate_index.specs.declared.scene.Standing.{Standing}
 use Rattle.candidate_index.specs.declared.scene.Standing.TheVariants.{Apart, NoBox, Chained}
-use Rattle.candidate_index.specs.Registrations.{place_of, serials_at, standing_for}
+use Rattle.candidate_index.specs.Registrations.{place_of, observer_of, serials_at, standing_for}
 use Rattle.candidate_index.specs.Asked.{steps_if}
 use Rattle.candidate_index.specs.Held.{kept_of}
 use Rattle.kept_findings.specs.Held.{HeldFindings}
@@ -37,7 +37,7 @@ use Rattle.page_geometry.specs.Scenes.{standings_of}
 use Rattle.intersection_update.specs.Updating.{Carried}
 use Rattle.intersection_update.specs.Keeping.{HaveChains, is_stale_in, StandsAt}
 use Rattle.intersection_update.specs.Steps.{stale_count, spots_anew, times_computed, steps_at, most_steps}
-use Rattle.intersection_update.proofs.Carried.{place_still, stale_still, steps_still}
+use Rattle.intersection_update.proofs.Carried.{place_still, root_still, stale_still, steps_still}
 use Rattle.intersection_update.proofs.Keeping.{stale_by, watcher_is}
 use Rattle.intersection_update.proofs.Numbers.{first_numbers, next_number}
 
@@ -117,6 +117,10 @@ by_both true false from steps more c1 c2 s1 s1_now s2 c s then less cs ss one tw
 by_both false true from steps more c1 c2 s1 s1_now s2 c s then less cs ss one two = absurd (false≢true (then refl))
 by_both false false from steps more c1 c2 s1 s1_now s2 c s then less cs ss one two = omega (arith, less, cs, ss, one, two)
 
+by_part : (once : Bool) (c1 c2 s1 s2 c s : ℕ) → c ≡ c1 + c2 → s ≡ s1 + s2 → c1 + cond once 1 2 * s1 ≤ c + cond once 1 2 * s
+by_part true c1 c2 s1 s2 c s cs ss = omega (arith, cs, ss)
+by_part false c1 c2 s1 s2 c s cs ss = omega (arith, cs, ss)
+
 lt_before : (a b c : ℕ) → a ≤ b → nat_lt b c ≡ true → nat_lt a c ≡ true
 lt_before a b c less is = grind (arith, nat_tests)
 
@@ -151,6 +155,16 @@ module _ (shown : Shown) (margins : List Margins) (chained : HaveChains shown) (
       (sum_by-append (spots_anew shown chained was old next) xs ys ∙ ap (λ n. sum_by (spots_anew shown chained was old next) xs + n) (sym spots_same))
       one two
 
+  -- for some of them no more than for all
+  steps_part : (xs ys : List ℕ) (old now : HeldFindings) → steps_at shown margins chained was xs old now ≤ steps_at shown margins chained was (xs ++ ys) old now
+  steps_part xs ys old now =
+      let once : ℕ → ℕ = λ serial. cond (is_stale_in shown margins chained was old.kept serial) 1 0 in
+      by_part (nat_lt now.clips.touches.count last_number)
+      (stale_count shown margins chained was old xs) (stale_count shown margins chained was old ys)
+      (sum_by (spots_anew shown chained was old now) xs) (sum_by (spots_anew shown chained was old now) ys)
+      (stale_count shown margins chained was old (xs ++ ys)) (sum_by (spots_anew shown chained was old now) (xs ++ ys))
+      (sum_by-append once xs ys) (sum_by-append (spots_anew shown chained was old now) xs ys)
+
 module _ (shown : Shown) (margins : List Margins) (chained : HaveChains shown) (document : ℕ) (was : IntersectionObservers) where
   -- the registrations of so many observers
   abbrev first_serials : ℕ → List ℕ
@@ -168,11 +182,13 @@ module _ (shown : Shown) (margins : List Margins) (chained : HaveChains shown) (
       one true = flat_map-cons (serials_at was) number [] ∙ append-nil (serials_at was number)
       one false = refl
 
-  -- so many observers' registrations are paid for, and what is kept of those of later ones is as it was
+  -- so many observers' registrations are paid for, and what is kept of those of later ones is as it was, and the clips of another
+  -- document's
   pub record Totals (number : ℕ) (old now : HeldFindings) (from steps : ℕ) : Type 0 where
     pub paid : steps ≤ from + steps_at shown margins chained was (first_serials number) old now
     pub kept : (serial : ℕ) → number ≤ (place_of was serial).watcher → kept_of now.kept serial ≡ kept_of old.kept serial
     pub pairs : (serial : ℕ) → number ≤ (place_of was serial).watcher → pair_of now.clips serial ≡ pair_of old.clips serial
+    pub apart : (serial : ℕ) → is_rooted_in shown.tree document (observer_of was serial).root ≡ false → pair_of now.clips serial ≡ pair_of old.clips serial
 
   pub totals_skip : (it : IntersectionObservers) → Carried was it → (number : ℕ) (old now : HeldFindings) (from steps : ℕ) → number < length was.made →
       is_rooted_in shown.tree document (intersection_observer_at it number).root ≡ false → Totals number old now from steps → Totals (number + 1) old now from steps
@@ -181,6 +197,7 @@ module _ (shown : Shown) (margins : List Margins) (chained : HaveChains shown) (
         (sym (append-nil (first_serials number)) ∙ sym (more_serials number false there (sym apart ∙ ap (is_rooted_in shown.tree document) (carried.alike number).root))) so_far.paid;
     kept = λ serial later. so_far.kept serial (omega (arith, later));
     pairs = λ serial later. so_far.pairs serial (omega (arith, later));
+    apart = so_far.apart;
   }
 
   module _ (it : IntersectionObservers) (carried : Carried was it) (number : ℕ) (old now next : HeldFindings) (from steps more : ℕ) where
@@ -192,34 +209,74 @@ module _ (shown : Shown) (margins : List Margins) (chained : HaveChains shown) (
         count_by (λ s. stale_still was it carried s (scene_of shown) (standings_of shown) chained margins now.kept i) (carried.listed number i)
         + times_computed next.clips.touches * sum_by (λ s. steps_still was it carried s (scene_of shown) (standings_of shown) chained (record (now.clips) { touches = next.clips.touches }) i) (carried.listed number i)
 
-    pub totals_more : number < length was.made → is_rooted_in shown.tree document (intersection_observer_at it number).root ≡ true → Totals number old now from steps → AreNumbered now.clips →
-        ChangesByLooks (scene_of shown) now.seen next.seen now.clips.touches next.clips.touches →
-        ((serial : ℕ) → (¬ (place_of it serial).watcher ≡ number) → kept_of next.kept serial ≡ kept_of now.kept serial) →
-        ((serial : ℕ) → (¬ (place_of it serial).watcher ≡ number) → pair_of next.clips serial ≡ pair_of now.clips serial) →
-        All (λ serial. StandsAt it number serial) (serials_at it number) → more ≤ steps + steps_at shown margins chained it (serials_at it number) now next → Totals (number + 1) old next from more
-    totals_more there rooted so_far numbered changes kept pairs listed taken =
-        let its : All (λ s. (place_of was s).watcher ≡ number) (serials_at was number) =
-        subst (All (λ s. (place_of was s).watcher ≡ number)) (carried.listed number)
-        (All-weaker (λ s. StandsAt it number s) (λ s. (place_of was s).watcher ≡ number) (λ s stands. sym (here s) ∙ watcher_is it number s stands) (serials_at it number) listed) in
-        record {
-          paid = subst (λ (these : List ℕ). more ≤ from + steps_at shown margins chained was these old next)
-              (sym (more_serials number true there (sym rooted ∙ ap (is_rooted_in shown.tree document) (carried.alike number).root)))
-              (steps_both shown margins chained was (first_serials number) (serials_at was number) old now next from steps more changes.count
-              (later_looked (scene_of shown) now.seen next.seen now.clips.touches next.clips.touches numbered.touched numbered.counted changes)
-              (All-weaker (λ s. (place_of was s).watcher ≡ number) (λ s. kept_of now.kept s ≡ kept_of old.kept s) (λ s same. so_far.kept s (omega (arith, same))) (serials_at was number) its)
-              (All-weaker (λ s. (place_of was s).watcher ≡ number) (λ s. pair_of now.clips s ≡ pair_of old.clips s) (λ s same. so_far.pairs s (omega (arith, same))) (serials_at was number) its)
-              so_far.paid (subst (λ n. more ≤ steps + n) same_steps taken));
-          kept = λ serial later.
-              kept serial (λ same. let place = here serial in absurd (omega (arith, later, same, place)))
-              ∙ so_far.kept serial (omega (arith, later));
-          pairs = λ serial later.
-              pairs serial (λ same. let place = here serial in absurd (omega (arith, later, same, place)))
-              ∙ so_far.pairs serial (omega (arith, later));
-        }
+    module _ (there : number < length was.made) (rooted : is_rooted_in shown.tree document (intersection_observer_at it number).root ≡ true) (so_far : Totals number old now from steps) where
+      -- also where it stops at this one
+      pub paid_here : AreNumbered now.clips → ChangesByLooks (scene_of shown) now.seen next.seen now.clips.touches next.clips.touches →
+          All (λ serial. StandsAt it number serial) (serials_at it number) → more ≤ steps + steps_at shown margins chained it (serials_at it number) now next →
+          more ≤ from + steps_at shown margins chained was (first_serials (number + 1)) old next
+      paid_here numbered changes listed taken =
+          let its : All (λ s. (place_of was s).watcher ≡ number) (serials_at was number) =
+          subst (All (λ s. (place_of was s).watcher ≡ number)) (carried.listed number)
+          (All-weaker (λ s. StandsAt it number s) (λ s. (place_of was s).watcher ≡ number) (λ s stands. sym (here s) ∙ watcher_is it number s stands) (serials_at it number) listed) in
+          subst (λ (these : List ℕ). more ≤ from + steps_at shown margins chained was these old next)
+          (sym (more_serials number true there (sym rooted ∙ ap (is_rooted_in shown.tree document) (carried.alike number).root)))
+          (steps_both shown margins chained was (first_serials number) (serials_at was number) old now next from steps more changes.count
+          (later_looked (scene_of shown) now.seen next.seen now.clips.touches next.clips.touches numbered.touched numbered.counted changes)
+          (All-weaker (λ s. (place_of was s).watcher ≡ number) (λ s. kept_of now.kept s ≡ kept_of old.kept s) (λ s same. so_far.kept s (omega (arith, same))) (serials_at was number) its)
+          (All-weaker (λ s. (place_of was s).watcher ≡ number) (λ s. pair_of now.clips s ≡ pair_of old.clips s) (λ s same. so_far.pairs s (omega (arith, same))) (serials_at was number) its)
+          so_far.paid (subst (λ n. more ≤ steps + n) same_steps taken))
+
+      pub apart_here : ((serial : ℕ) → (¬ (place_of it serial).watcher ≡ number) → pair_of next.clips serial ≡ pair_of now.clips serial) →
+          (serial : ℕ) → is_rooted_in shown.tree document (observer_of was serial).root ≡ false → pair_of next.clips serial ≡ pair_of old.clips serial
+      apart_here pairs serial apart =
+          pairs serial (λ same. false≢true
+          (sym apart
+          ∙ ap (is_rooted_in shown.tree document) (sym (root_still was it carried serial))
+          ∙ ap (λ w. is_rooted_in shown.tree document (intersection_observer_at it w).root) same
+          ∙ rooted))
+          ∙ so_far.apart serial apart
+
+      pub totals_more : AreNumbered now.clips → ChangesByLooks (scene_of shown) now.seen next.seen now.clips.touches next.clips.touches →
+          ((serial : ℕ) → (¬ (place_of it serial).watcher ≡ number) → kept_of next.kept serial ≡ kept_of now.kept serial) →
+          ((serial : ℕ) → (¬ (place_of it serial).watcher ≡ number) → pair_of next.clips serial ≡ pair_of now.clips serial) →
+          All (λ serial. StandsAt it number serial) (serials_at it number) → more ≤ steps + steps_at shown margins chained it (serials_at it number) now next → Totals (number + 1) old next from more
+      totals_more numbered changes kept pairs listed taken = record {
+        paid = paid_here numbered changes listed taken;
+        kept = λ serial later.
+            kept serial (λ same. let place = here serial in absurd (omega (arith, later, same, place)))
+            ∙ so_far.kept serial (omega (arith, later));
+        pairs = λ serial later.
+            pairs serial (λ same. let place = here serial in absurd (omega (arith, later, same, place)))
+            ∙ so_far.pairs serial (omega (arith, later));
+        apart = apart_here pairs;
+      }
+
+  -- those of so many more observers
+  steps_on : (more number : ℕ) (old now : HeldFindings) → number + more ≤ length was.made →
+      steps_at shown margins chained was (first_serials number) old now ≤ steps_at shown margins chained was (first_serials (number + more)) old now
+  steps_on zero number old now within =
+      let P : ℕ → Type 0 = λ n. steps_at shown margins chained was (first_serials number) old now ≤ steps_at shown margins chained was (first_serials n) old now in
+      let same : number ≡ number + 0 = omega arith in
+      let own : steps_at shown margins chained was (first_serials number) old now ≤ steps_at shown margins chained was (first_serials number) old now = omega arith in
+      subst P same own
+  steps_on (suc more) number old now within =
+      let P : ℕ → Type 0 = λ n. steps_at shown margins chained was (first_serials number) old now ≤ steps_at shown margins chained was (first_serials n) old now in
+      let is : Bool = is_rooted_in shown.tree document (intersection_observer_at was number).root in
+      let one : P (number + 1) =
+      subst (λ (these : List ℕ). steps_at shown margins chained was (first_serials number) old now ≤ steps_at shown margins chained was these old now)
+      (sym (more_serials number is (omega (arith, within)) refl)) (steps_part shown margins chained was (first_serials number) (cond is (serials_at was number) []) old now) in
+      let rest = steps_on more (number + 1) old now (omega (arith, within)) in
+      let same : number + 1 + more ≡ number + suc more = omega arith in
+      subst P same (omega (arith, one, rest))
 
   -- those of all observers that are looked at
-  pub totals_all : (number : ℕ) (old now : HeldFindings) (from steps : ℕ) → number ≡ length was.made → Totals number old now from steps → steps ≤ from + most_steps shown margins chained document was old now
-  totals_all number old now from steps past so_far =
-      subst (λ (these : List ℕ). steps ≤ from + steps_at shown margins chained was these old now)
-      (ap (λ (made : List IntersectionObserver). flat_map (serials_at was) (places_from 0 (λ (it : IntersectionObserver). is_rooted_in shown.tree document (it.root)) made))
-      (ap (λ n. take n (was.made)) past ∙ take_all (length was.made) (was.made) (omega arith))) so_far.paid
+  pub totals_all : (number : ℕ) (old now : HeldFindings) (from steps : ℕ) → number ≤ length was.made → steps ≤ from + steps_at shown margins chained was (first_serials number) old now →
+      steps ≤ from + most_steps shown margins chained document was old now
+  totals_all number old now from steps within paid =
+      let left : ℕ = length was.made - number in
+      let all = steps_on left number old now (omega (arith, within)) in
+      let past : number + left ≡ length was.made = omega (arith, within) in
+      let whole : steps_at shown margins chained was (first_serials (number + left)) old now ≡ most_steps shown margins chained document was old now =
+      ap (λ (made : List IntersectionObserver). steps_at shown margins chained was (flat_map (serials_at was) (places_from 0 (λ (it : IntersectionObserver). is_rooted_in shown.tree document (it.root)) made)) old now)
+      (ap (λ n. take n (was.made)) past ∙ take_all (length was.made) (was.made) (omega arith)) in
+      omega (arith, paid, all, whole)

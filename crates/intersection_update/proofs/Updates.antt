@@ -1,5 +1,5 @@
 -- Registrations settled one after the other, and observers one after the other.
-use Rattle.std.proofs.Common.{◌≡◌, ℕ, suc, ◌<◌, ◌≤◌, ◌+◌, ◌∙◌, ap, refl, sym, length, take, arith}
+use Rattle.std.proofs.Common.{◌≡◌, ℕ, suc, ◌<◌, ◌≤◌, ◌+◌, ◌∙◌, ap, refl, sym, length, take, inr, arith}
 use Rattle.std.specs.Prelude.{Bool, true, false, cond, ◌||◌, nat_lt, List, [], ◌∷◌, Result, Ok, Err, OnOk, OnErr}
 use Rattle.std.specs.List.{list_any}
 use Rattle.std.proofs.lemmas.List.{take_all}
@@ -103,7 +103,7 @@ module _ (shown : Shown) (margins : List Margins) (tree : Tree) (document time :
       (is ∙ ap first_observers past ∙ first_all no_intersection_observer is_its once_settled 0 (was.part.made) ∙ sym (each_place no_intersection_observer is_its once_settled (was.part.made)))
       ∙ ap (λ (it : IntersectionObservers). record was { part = it }) (sym (in_turn shown margins time (watchers tree document was.part) was.part))
 
-  -- where it stops at one of them
+  -- where it stops at one of them, whose root is the document's
   pub stopped_settled : (place : ℕ) (now next : HeldWatchers) → now.part.given ≡ was.part.given → now.part.made ≡ first_observers place → (begun : IsBegun shown margins time place now.part next.part) →
       next.part ≡ first_settled shown margins time place begun.place (first_updated shown margins tree document time place (was.part))
   stopped_settled place now next given is begun =
@@ -115,8 +115,8 @@ module _ (shown : Shown) (margins : List Margins) (tree : Tree) (document time :
       begun.settled ∙ ap (first_settled shown margins time place begun.place) same
 
   pub stopped_at : (place : ℕ) (now next : HeldWatchers) → now.part.given ≡ was.part.given → now.part.made ≡ first_observers place → IsBegun shown margins time place now.part next.part →
-      IsStopped shown margins tree document time was.part next.part
-  stopped_at place now next given is begun = record { number = place; place = begun.place; settled = stopped_settled place now next given is begun }
+      is_rooted_in tree document (intersection_observer_at was.part place).root ≡ true → IsStopped shown margins tree document time was.part next.part
+  stopped_at place now next given is begun rooted = record { number = place; place = begun.place; rooted = inr rooted; settled = stopped_settled place now next given is begun }
 
   pub all_told : (place : ℕ) (queued : Bool) → place ≡ length was.part.made → queued ≡ first_told place → queued ≡ has_news tree document was.part (updated shown margins tree document time was.part)
   all_told place queued past is =

@@ -11,10 +11,11 @@ use Rattle.element_tree.specs.declared.container.Container.{Container}
 use Rattle.clip_chain.specs.Worlds.{scene_of}
 use Rattle.intersection_observer.specs.Places.{standing_of, IsStanding}
 use Rattle.kept_clips.specs.Held.{HeldClips, pair_of}
+use Rattle.kept_clips.specs.Chains.{is_current}
 use Rattle.kept_clips.specs.Seen.{Seen, sighting_of, sighting_in}
 use Rattle.kept_clips.specs.Looked.{IsLeft, ChangesByLooks}
 use Rattle.candidate_index.specs.declared.index.Kept.{Kept}
-use Rattle.candidate_index.specs.Registrations.{observer_of, target_of, serials_at}
+use Rattle.candidate_index.specs.Registrations.{observer_of, target_of, serials_at, standing_for, IfChained}
 use Rattle.candidate_index.specs.Held.{kept_of, is_stale_now}
 use Rattle.kept_findings.specs.Held.{HeldFindings}
 use Rattle.kept_findings.specs.Walks.{AreChained, AlongChain, IsNot, spots_between}
@@ -56,6 +57,11 @@ pub record AreLookedAlong (shown : Shown) (it : IntersectionObservers) (watcher 
   pub touched : ChangesByLooks (scene_of shown) before.seen now.seen before.clips.touches now.clips.touches
   pub left : (spot : Container) → ((serial : ℕ) → StandsAt it watcher serial → IsOff shown it spot serial) → IsLeft before.seen now.seen before.clips.touches now.clips.touches spot
   pub seen : (serial : ℕ) → StandsAt it watcher serial → IsSeen shown it now.seen serial
+
+-- the clip that is held for a registration is valid, if a chain leads to its root
+abbrev pub HasCurrentClip : (shown : Shown) → HaveChains shown → IntersectionObservers → HeldClips → ℕ → Type 0
+HasCurrentClip shown chained it clips serial =
+    IfChained (standing_for (standings_of shown) it serial) (is_current clips serial (spots_between (scene_of shown) (standings_of shown) chained it serial) ≡ true)
 
 -- a registration of which a clip was computed still has one
 abbrev pub KeepsComputed : (before now : HeldClips) → Type 0

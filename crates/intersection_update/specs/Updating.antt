@@ -1,6 +1,6 @@
 -- The result of updating a document's intersection observers (Intersection Observer, 3.2.10: run the update intersection
 -- observations steps).
-use Rattle.std.specs.Prelude.{◌≡◌, ℕ, ◌+◌, ◌==◌, Bool, true, cond, List, length, take, slice_get, count_by, Some}
+use Rattle.std.specs.Prelude.{◌≡◌, ◌⊎◌, ℕ, ◌+◌, ◌==◌, Bool, true, cond, List, length, take, slice_get, count_by, Some}
 use Rattle.std.specs.List.{list_any}
 use Rattle.script_model.specs.Margins.{Margins}
 use Rattle.page_model.specs.World.{Finding, Entry, Registration, IntersectionObserver, IntersectionObservers, Tree}
@@ -64,10 +64,12 @@ abbrev pub first_updated : Shown → List Margins → Tree → ℕ → ℕ → �
 first_updated shown margins tree document time number it =
     settling time (found_through shown margins) (watchers tree document (record it { made = take number (it.made) })) it
 
--- an update that stopped at a registration: all that came before it is settled, and nothing else
+-- an update that stopped at a registration of an observer whose root is the document or in its tree, or before the first one of
+-- an observer: all that came before is settled, and nothing else
 pub record IsStopped (shown : Shown) (margins : List Margins) (tree : Tree) (document time : ℕ) (before now : IntersectionObservers) : Type 0 where
   pub number : ℕ
   pub place : ℕ
+  pub rooted : (place ≡ 0) ⊎ (is_rooted_in tree document (intersection_observer_at before number).root ≡ true)
   pub settled : now ≡ first_settled shown margins time number place (first_updated shown margins tree document time number before)
 
 -- the observer with this number, settled if its root is the document or in its tree

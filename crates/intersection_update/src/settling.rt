@@ -6,6 +6,7 @@ ghost use Rattle.page_model.specs.Intersections.{is_rooted_in, settled_observer,
 ghost use Rattle.element_tree.specs.declared.container.Container.{Container as ContainerOf};
 ghost use Rattle.clip_chain.specs.Worlds.{scene_of};
 ghost use Rattle.intersection_observer.specs.Serials.{HasSerials};
+ghost use Rattle.kept_clips.specs.Touches.{last_number};
 ghost use Rattle.kept_clips.specs.Held.{pair_of};
 ghost use Rattle.kept_clips.specs.Looked.{IsLeft, ChangesByLooks};
 ghost use Rattle.candidate_index.specs.Registrations.{place_of, observer_of, serials_at};
@@ -14,7 +15,7 @@ ghost use Rattle.kept_findings.specs.Registered.{AreRegistered};
 ghost use Rattle.kept_findings.specs.Rooms.{HaveRoom};
 ghost use Rattle.intersection_update.specs.Watching.{AreWatchers};
 ghost use Rattle.intersection_update.specs.Updating.{found_through, updated, has_news, AreKept, AreSettled, IsBegun, IsStopped};
-ghost use Rattle.intersection_update.specs.Keeping.{HaveChains, is_stale_in, StandsAt, IsLookedAt, IsSeen, IsOff, AreLookedAlong, KeepsComputed, IsRefusedAt, IsRefused, HaveLooked};
+ghost use Rattle.intersection_update.specs.Keeping.{HaveChains, is_stale_in, StandsAt, IsLookedAt, IsSeen, IsOff, AreLookedAlong, HasCurrentClip, KeepsComputed, IsRefusedAt, IsRefused, HaveLooked};
 ghost use Rattle.intersection_update.specs.Steps.{steps_at, most_steps};
 
 use crate::rooted::is_looked_at;
@@ -68,9 +69,11 @@ fn settle_stale<L: Ledger>(
     ensures rest { (chained : HaveChains shown.now) → OnOk result ((serial : ℕ) →
         (kept_of findings.new.kept serial ≡ kept_of findings.old.kept serial) ⊎ (is_stale_in shown.now scroll_margins.now chained watchers.old.part findings.new.kept serial ≡ false)) }
     ensures computed { KeepsComputed findings.old.clips findings.new.clips }
-    ensures listed { OnOk result (All (λ serial. StandsAt watchers.old.part watcher.0 serial) (serials_at watchers.old.part watcher.0)) }
-    ensures pairs { OnOk result ((serial : ℕ) → (¬ (place_of watchers.old.part serial).watcher ≡ watcher.0) → pair_of findings.new.clips serial ≡ pair_of findings.old.clips serial) }
-    ensures paid { (chained : HaveChains shown.now) → OnOk result (steps.new ≤ steps.old + steps_at shown.now scroll_margins.now chained watchers.old.part (serials_at watchers.old.part watcher.0) findings.old findings.new) }
+    ensures listed { All (λ serial. StandsAt watchers.old.part watcher.0 serial) (serials_at watchers.old.part watcher.0) }
+    ensures pairs { (serial : ℕ) → (¬ (place_of watchers.old.part serial).watcher ≡ watcher.0) → pair_of findings.new.clips serial ≡ pair_of findings.old.clips serial }
+    ensures paid { (chained : HaveChains shown.now) → steps.new ≤ steps.old + steps_at shown.now scroll_margins.now chained watchers.old.part (serials_at watchers.old.part watcher.0) findings.old findings.new }
+    ensures current { (chained : HaveChains shown.now) → OnOk result (findings.new.clips.touches.count < last_number →
+        All (HasCurrentClip shown.now chained watchers.old.part findings.new.clips) (serials_at watchers.old.part watcher.0)) }
     ensures refused { (chained : HaveChains shown.now) → OnErr result (IsRefusedAt shown.now scroll_margins.now chained time watcher.0 watchers.old.part watchers.new.part findings.old.kept findings.new.kept) }
 {
     // Yields that chains lead to roots.
@@ -117,7 +120,7 @@ fn settle_stale<L: Ledger>(
 /// # Errors
 ///
 /// If an entry or a list can't be allocated: the registrations before it are settled then, and no other registration or queue
-/// is changed.
+/// is changed. It takes no more steps then than an update that succeeds may take.
 pub fn update<L: Ledger>(
     shown: &Shown<'_>,
     watchers: &mut Watchers,
@@ -151,7 +154,11 @@ pub fn update<L: Ledger>(
     ensures fresh { (chained : HaveChains shown.now) → OnOk result ((serial : ℕ) → IsLookedAt shown.now.tree document.0 watchers.new.part serial →
         is_stale_in shown.now scroll_margins.now chained watchers.new.part findings.new.kept serial ≡ false) }
     ensures computed { KeepsComputed findings.old.clips findings.new.clips }
-    ensures ticks { (chained : HaveChains shown.now) → OnOk result (steps.new ≤ steps.old + most_steps shown.now scroll_margins.now chained document.0 watchers.old.part findings.old findings.new) }
+    ensures pairs { (serial : ℕ) → is_rooted_in shown.now.tree document.0 (observer_of watchers.old.part serial).root ≡ false →
+        pair_of findings.new.clips serial ≡ pair_of findings.old.clips serial }
+    ensures ticks { (chained : HaveChains shown.now) → steps.new ≤ steps.old + most_steps shown.now scroll_margins.now chained document.0 watchers.old.part findings.old findings.new }
+    ensures current { (chained : HaveChains shown.now) → OnOk result (findings.new.clips.touches.count < last_number → (serial : ℕ) →
+        IsLookedAt shown.now.tree document.0 watchers.new.part serial → HasCurrentClip shown.now chained watchers.new.part findings.new.clips serial) }
     ensures refused { (chained : HaveChains shown.now) → OnErr result (IsRefused shown.now scroll_margins.now chained document.0 time watchers.old.part watchers.new.part findings.old.kept findings.new.kept) }
 {
     // Yields that chains lead to roots.

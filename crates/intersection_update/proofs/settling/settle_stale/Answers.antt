@@ -2,13 +2,14 @@ use Rattle.std.proofs.Common.{◌≡◌, ◌∙◌, ◌+◌, ◌<◌, ◌≤◌,
 use Rattle.std.specs.List.{All}
 use Rattle.std.specs.FinMap.{FinMap}
 use Rattle.std.specs.Ordering.{nat_cmp}
+use Rattle.std.proofs.lemmas.List.Elements.{All-weaker}
 use Rattle.page_model.specs.World.{IntersectionObservers}
 use Rattle.page_model.specs.Lookups.{scroll_margins_at}
 use Rattle.clip_chain.specs.Worlds.{scene_of}
 use Rattle.intersection_observer.specs.declared.registration.RegistrationId.{RegistrationId}
 use Rattle.intersection_observer.specs.Watchers.{HeldWatchers, watcher_at}
 use Rattle.intersection_observer.specs.Settling.{with_settled}
-use Rattle.kept_clips.specs.Touches.{Touched}
+use Rattle.kept_clips.specs.Touches.{Touched, last_number}
 use Rattle.kept_clips.specs.Held.{HeldClips}
 use Rattle.kept_clips.specs.Scenes.{AgreesAt}
 use Rattle.kept_clips.specs.Seen.{Seen, scene_seen}
@@ -22,13 +23,14 @@ use Rattle.kept_findings.proofs.Rooms.{room_looked, room_same}
 use Rattle.kept_findings.proofs.Walking.{is_between}
 use Rattle.page_geometry.specs.Scenes.{standings_of, telling_of}
 use Rattle.page_geometry.proofs.Scenes.{chained_of}
-use Rattle.intersection_update.specs.Keeping.{is_stale_in, StandsAt}
+use Rattle.intersection_update.specs.Keeping.{is_stale_in, StandsAt, HasCurrentClip}
 use Rattle.intersection_update.proofs.Carried.{carried_same, along_still, stale_still, asked_still, steps_still}
+use Rattle.intersection_update.proofs.Current.{current_first, still_asked}
 use Rattle.intersection_update.proofs.Room.{may_be_walked}
 use Rattle.intersection_update.proofs.Keeping.{at_standing, all_standing, watcher_is, SoFar, none_so_far, same_more, others_more, kept_but_one, one_more, none_stale, stale_at, looked_along, looked_still}
 use Rattle.intersection_update.proofs.Settled.{kept_same, kept_then, kept_once, longer_once, queued_is}
 use Rattle.intersection_update.proofs.Stale.{numbers_are, as_many, next_of, stands, next_settled, stale_settled, stopped_at}
-use Rattle.intersection_update.proofs.Steps.{cost, computed_asked, computed_all, computed_same, paid_first, paid_more, paid_from, paid_all, with_touches}
+use Rattle.intersection_update.proofs.Steps.{cost, computed_asked, computed_all, computed_same, apart_asked, pair_same, paid_first, paid_more, paid_from, paid_all, with_touches}
 use Rattle.intersection_update.proofs.Updates.{either_queued, not_queued, on_err}
 use Rattle.intersection_update.proofs.settling.settle_stale.Goals as goal
 
@@ -80,6 +82,12 @@ loop-registration-init g c =
           c.clips.ensures.numbered
           (c.in_ok-stale.ensures.clips between (λ k none below. leads (get_or serials k none))) c.stale_registrations.ensures.touches
           (c.in_ok-stale.ensures.ticks between (λ k none below. leads (get_or serials k none))));
+      current = λ chained below.
+          let scene = scene_of c.args.shown.now in
+          let between = spots_between scene (standings_of c.args.shown.now) chained was.part in
+          let serials = serials_at was.part c.args.watcher.0 in
+          current_first (seen_by was.part c.args.scroll_margins.now c.args.watcher.0 scene) (standings_of c.args.shown.now) was.part between serials c.look.new.self.clips c.stale_registrations.new.self.clips
+          c.clips.ensures.numbered (c.in_ok-stale.ensures.clips between (λ k none there. is_between scene (standings_of c.args.shown.now) chained was.part (get_or serials k none))) c.stale_registrations.ensures.touches below;
       so_far = λ chained.
           subst (λ (kept : FinMap nat_cmp (Option Kept)). SoFar c.args.shown.now c.args.scroll_margins.now chained was.part c.args.watcher.0 c.args.findings.now.kept kept c.deref-registration-items.result.now 0)
           (sym (c.stale_registrations.ensures.kept ∙ c.look.ensures.kept)) (none_so_far c.args.shown.now c.args.scroll_margins.now chained was.part c.args.watcher.0 c.args.findings.now.kept c.deref-registration-items.result.now);
@@ -327,6 +335,21 @@ loop-registration-preserved g c =
           (λ early. at_standing (λ s. cost view standings was.part between s last ≡ 0) was.part watcher serial stands_there ((so_far.paid any).none early))
           (λ other apart. at_standing (λ s. ¬ other ≡ s) was.part watcher serial stands_there apart)
           asked ticks);
+      current = λ any early.
+          let scene = scene_of shown in
+          let standings = standings_of shown in
+          let between = spots_between scene standings any was.part in
+          let last : HeldClips = c.loop-registration.findings.clips in
+          let new : HeldClips = c.settle.new.self.clips in
+          let listed = numbers_are shown margins any c.args.time watcher was.part c.args.findings.now names c.in_ok-stale.stale.items c.look.new.self c.deref-registration-items.ensures.value c.look.ensures.kept c.in_ok-stale.ensures.stale in
+          let stands_there = stands shown margins any c.args.time watcher was.part c.args.findings.now page c.registrations.ensures.serials k serial was.part
+          (next_of shown margins any c.args.time watcher was.part c.args.findings.now page c.registrations.ensures.serials names none k listed below) (carried_same was.part) in
+          let asked = c.settle.ensures.clips (spots_between scene standings any now.part) (is_between scene standings any now.part serial)
+          ∙ asked_still was.part now.part so_far.kept.carried serial scene standings any margins last
+          ∙ ap (λ w. asked_for (seen_by was.part margins w scene) standings was.part between serial last) (watcher_is was.part watcher serial stands_there) in
+          All-weaker (HasCurrentClip shown any was.part last) (HasCurrentClip shown any was.part new)
+          (λ other. still_asked (seen_by was.part margins watcher scene) standings was.part between serial other last new asked) (serials_at was.part watcher)
+          (so_far.current any (subst (λ (t : Touched). t.count < last_number) c.settle.ensures.touches early));
       so_far = λ any.
           let listed = numbers_are shown margins any c.args.time watcher was.part c.args.findings.now names c.in_ok-stale.stale.items c.look.new.self c.deref-registration-items.ensures.value c.look.ensures.kept c.in_ok-stale.ensures.stale in
           let stands_there = stands shown margins any c.args.time watcher was.part c.args.findings.now page c.registrations.ensures.serials k serial was.part
@@ -385,9 +408,88 @@ returns-clause-same g c = λ chained. (c.loop-registration.invariant.so_far chai
 pub returns-clause-rest : goal.returns-clause-rest
 returns-clause-rest g c = λ chained. (c.loop-registration.invariant.so_far chained).rest
 
+pub returns-in_err-stale-clause-listed : goal.returns-in_err-stale-clause-listed
+returns-in_err-stale-clause-listed g c =
+    all_standing (StandsAt c.args.watchers.now.part c.args.watcher.0) c.args.watchers.now.part c.args.watcher.0 c.registrations.ensures.serials (λ serial stands. stands)
+
+pub returns-in_err-queued-clause-listed : goal.returns-in_err-queued-clause-listed
+returns-in_err-queued-clause-listed g c =
+    all_standing (StandsAt c.args.watchers.now.part c.args.watcher.0) c.args.watchers.now.part c.args.watcher.0 c.registrations.ensures.serials (λ serial stands. stands)
+
 pub returns-clause-listed : goal.returns-clause-listed
 returns-clause-listed g c =
     all_standing (StandsAt c.args.watchers.now.part c.args.watcher.0) c.args.watchers.now.part c.args.watcher.0 c.registrations.ensures.serials (λ serial stands. stands)
+
+pub returns-in_err-stale-clause-pairs : goal.returns-in_err-stale-clause-pairs
+returns-in_err-stale-clause-pairs g c = λ serial apart.
+    pair_same c.args.findings.now.clips c.stale_registrations.new.self.clips (ap (λ (it : HeldClips). it.pairs) c.in_err-stale.ensures.same_clips ∙ c.look.ensures.looked.pairs) serial
+
+pub returns-in_err-queued-clause-pairs : goal.returns-in_err-queued-clause-pairs
+returns-in_err-queued-clause-pairs g c =
+    let shown = c.args.shown.now in
+    let margins = c.args.scroll_margins.now in
+    let page = c.document_count.ensures.page in
+    let was = c.args.watchers.now.part in
+    let now = c.loop-registration.watchers.part in
+    let watcher = c.args.watcher.0 in
+    let names = c.deref-registration-items.result.now in
+    let k = c.loop-registration.registration-index in
+    let none : RegistrationId = record { 0 = 0 } in
+    let serial = (get_or names k none).0 in
+    let below : k < length names = omega arith in
+    let chained = chained_of shown page in
+    let between = spots_between (scene_of shown) (standings_of shown) chained now in
+    let same = numbers_are shown margins chained c.args.time watcher was c.args.findings.now names c.in_ok-stale.stale.items c.look.new.self c.deref-registration-items.ensures.value c.look.ensures.kept c.in_ok-stale.ensures.stale in
+    let stands_there = stands shown margins chained c.args.time watcher was c.args.findings.now page c.registrations.ensures.serials k serial was (next_of shown margins chained c.args.time watcher was c.args.findings.now page c.registrations.ensures.serials names none k same below) (carried_same was) in
+    λ other apart.
+    apart_asked (seen_for now margins serial (scene_of shown)) (standings_of shown) now between serial other c.loop-registration.findings.clips c.settle.new.self.clips
+    (λ is. apart (ap (λ n. (place_of was n).watcher) is ∙ watcher_is was watcher serial stands_there))
+    (c.settle.ensures.clips between (is_between (scene_of shown) (standings_of shown) chained now serial))
+    ∙ (c.loop-registration.invariant.paid chained).others other
+    (all_standing (λ s. ¬ other ≡ s) was watcher c.registrations.ensures.serials (λ s stands is. apart (ap (λ n. (place_of was n).watcher) is ∙ watcher_is was watcher s stands)))
+
+pub returns-in_err-stale-clause-paid : goal.returns-in_err-stale-clause-paid
+returns-in_err-stale-clause-paid g c = λ chained. let same = c.in_err-stale.ensures.same_steps in omega (arith, same)
+
+-- the one that was refused is paid for too
+pub returns-in_err-queued-clause-paid : goal.returns-in_err-queued-clause-paid
+returns-in_err-queued-clause-paid g c =
+    let shown = c.args.shown.now in
+    let margins = c.args.scroll_margins.now in
+    let page = c.document_count.ensures.page in
+    let was = c.args.watchers.now.part in
+    let now = c.loop-registration.watchers.part in
+    let watcher = c.args.watcher.0 in
+    let names = c.deref-registration-items.result.now in
+    let k = c.loop-registration.registration-index in
+    let none : RegistrationId = record { 0 = 0 } in
+    let serial = (get_or names k none).0 in
+    let so_far = c.loop-registration.invariant in
+    let below : k < length names = omega arith in
+    let scene = scene_of shown in
+    let view = seen_by was margins watcher scene in
+    let standings = standings_of shown in
+    let serials = serials_at was watcher in
+    let old : HeldClips = c.args.findings.now.clips in
+    let last : HeldClips = c.loop-registration.findings.clips in
+    let new : HeldClips = c.settle.new.self.clips in
+    λ any.
+    let between = spots_between scene standings any was in
+    let listed = numbers_are shown margins any c.args.time watcher was c.args.findings.now names c.in_ok-stale.stale.items c.look.new.self c.deref-registration-items.ensures.value c.look.ensures.kept c.in_ok-stale.ensures.stale in
+    let stands_there = stands shown margins any c.args.time watcher was c.args.findings.now page c.registrations.ensures.serials k serial was
+    (next_of shown margins any c.args.time watcher was c.args.findings.now page c.registrations.ensures.serials names none k listed below) (carried_same was) in
+    let leads = is_between scene standings any now serial in
+    let asked = c.settle.ensures.clips (spots_between scene standings any now) leads ∙ asked_still was now so_far.kept.carried serial scene standings any margins last
+    ∙ ap (λ w. asked_for (seen_by was margins w scene) standings was between serial last) (watcher_is was watcher serial stands_there) in
+    let ticks = c.settle.ensures.ticks (spots_between scene standings any now) leads ∙ ap (λ n. c.loop-registration.steps + n + 1) (steps_still was now so_far.kept.carried serial scene standings any last) in
+    paid_all view standings was between (record old { touches = new.touches }) new serials names (is_stale_in shown margins any was c.args.findings.now.kept) c.args.steps.now c.settle.new.steps (k + 1)
+    (paid_from view standings was between (record old { touches = last.touches }) (record old { touches = new.touches }) new serials names c.args.steps.now c.settle.new.steps (k + 1)
+    (ap (λ (t : Touched). record old { touches = t }) (sym c.settle.ensures.touches))
+    (paid_more view standings was between (record old { touches = last.touches }) last new serials names c.args.steps.now c.loop-registration.steps c.settle.new.steps k (so_far.paid any) below
+    (λ early. at_standing (λ s. cost view standings was between s last ≡ 0) was watcher serial stands_there ((so_far.paid any).none early))
+    (λ other apart. at_standing (λ s. ¬ other ≡ s) was watcher serial stands_there apart)
+    asked ticks))
+    (omega (arith, below)) listed
 
 pub returns-clause-pairs : goal.returns-clause-pairs
 returns-clause-pairs g c =
@@ -396,6 +498,9 @@ returns-clause-pairs g c =
     λ serial apart.
     (c.loop-registration.invariant.paid (chained_of c.args.shown.now c.document_count.ensures.page)).others serial
     (all_standing (λ s. ¬ serial ≡ s) was watcher c.registrations.ensures.serials (λ s stands same. apart (ap (λ n. (place_of was n).watcher) same ∙ watcher_is was watcher s stands)))
+
+pub returns-clause-current : goal.returns-clause-current
+returns-clause-current g c = λ chained below. c.loop-registration.invariant.current chained below
 
 pub returns-clause-paid : goal.returns-clause-paid
 returns-clause-paid g c =

@@ -1,8 +1,9 @@
-use Rattle.std.proofs.Common.{◌≡◌, ◌≤◌, length}
+use Rattle.std.proofs.Common.{◌≡◌, ◌<◌, ◌≤◌, length}
 use Rattle.std.specs.List.{All}
 use Rattle.page_model.specs.Intersections.{has_queued}
 use Rattle.clip_chain.specs.Worlds.{scene_of}
 use Rattle.intersection_observer.specs.Watchers.{watcher_at}
+use Rattle.kept_clips.specs.Touches.{last_number}
 use Rattle.candidate_index.specs.Registrations.{serials_at}
 use Rattle.kept_findings.specs.Walks.{IsWalked, spots_between}
 use Rattle.kept_findings.specs.Views.{seen_by}
@@ -10,7 +11,7 @@ use Rattle.kept_findings.specs.Registered.{AreRegistered}
 use Rattle.kept_findings.specs.Rooms.{HaveRoom}
 use Rattle.page_geometry.specs.Scenes.{standings_of}
 use Rattle.intersection_update.specs.Updating.{AreKept}
-use Rattle.intersection_update.specs.Keeping.{HaveChains, AreLookedAlong, KeepsComputed, HaveLooked}
+use Rattle.intersection_update.specs.Keeping.{HaveChains, AreLookedAlong, HasCurrentClip, KeepsComputed, HaveLooked}
 use Rattle.intersection_update.proofs.Keeping.{SoFar}
 use Rattle.intersection_update.proofs.Steps.{Paid}
 use Rattle.intersection_update.proofs.Stale.{first_stale}
@@ -32,6 +33,7 @@ invariant-loop-registration g l =
       so_far : (chained : HaveChains l.shown) → SoFar l.shown l.scroll_margins chained was.part watcher l.fn.findings.kept l.findings.kept l.registration-items l.registration-index;
       paid : (chained : HaveChains l.shown) → Paid (seen_by was.part l.scroll_margins watcher (scene_of l.shown)) (standings_of l.shown) was.part (spots_between (scene_of l.shown) (standings_of l.shown) chained was.part)
           (record (l.fn.findings.clips) { touches = l.findings.clips.touches }) l.findings.clips (serials_at was.part watcher) l.registration-items l.fn.steps l.steps l.registration-index;
+      current : (chained : HaveChains l.shown) → l.findings.clips.touches.count < last_number → All (HasCurrentClip l.shown chained was.part l.findings.clips) (serials_at was.part watcher);
       computed : KeepsComputed l.fn.findings.clips l.findings.clips;
       walked : All (IsWalked (scene_of l.shown) (standings_of l.shown) was.part l.findings.seen) (serials_at was.part watcher);
     }

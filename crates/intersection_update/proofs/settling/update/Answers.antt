@@ -1,4 +1,4 @@
-use Rattle.std.proofs.Common.{◌≡◌, ◌<◌, ◌+◌, ◌∙◌, length, Some, refl, ap, sym, subst, inl, arith}
+use Rattle.std.proofs.Common.{◌≡◌, ◌<◌, ◌+◌, ◌∙◌, length, Some, refl, ap, sym, subst, inl, inr, arith}
 use Rattle.page_model.specs.World.{Tree}
 use Rattle.page_model.specs.Intersections.{is_rooted_in}
 use Rattle.clip_chain.specs.Worlds.{scene_of}
@@ -14,19 +14,20 @@ use Rattle.page_geometry.proofs.Scenes.{chained_of}
 use Rattle.intersection_update.specs.Updating.{updated, AreKept, AreSettled}
 use Rattle.intersection_update.specs.Keeping.{KeepsComputed, HaveLooked}
 use Rattle.intersection_update.proofs.Carried.{along_still, stale_still}
+use Rattle.intersection_update.proofs.Current.{AreCurrent, current_skip, current_more, current_then}
 use Rattle.intersection_update.proofs.Each.{settled_each}
 use Rattle.intersection_update.proofs.Observers.{Looks, looks_more, looks_skip, Leaves, same_next, others_next, kept_to, leaves_more, leaves_skip, looked_at_before, there_is}
 use Rattle.intersection_update.proofs.Settled.{kept_then}
-use Rattle.intersection_update.proofs.Totals.{Totals, totals_skip, totals_more, totals_all}
+use Rattle.intersection_update.proofs.Totals.{Totals, totals_skip, paid_here, apart_here, totals_more, totals_all}
 use Rattle.intersection_update.proofs.Updates.{rooted_settled, rooted_same, next_observer, next_told, skipped_told, all_observers, all_told, stopped_settled, stopped_at, on_err}
 use Rattle.intersection_update.proofs.settling.update.Goals as goal
 use Rattle.intersection_update.proofs.settling.update.Goals.{then-is_looked_at+in_ok-queued, else-is_looked_at}
 
 pub returns-in_err-looks-clause-stopped : goal.returns-in_err-looks-clause-stopped
-returns-in_err-looks-clause-stopped g c = on_err c.from_residual.result (record { number = 0; place = 0; settled = refl })
+returns-in_err-looks-clause-stopped g c = on_err c.from_residual.result (record { number = 0; place = 0; rooted = inl refl; settled = refl })
 
 pub returns-in_err-looks-clause-refused : goal.returns-in_err-looks-clause-refused
-returns-in_err-looks-clause-refused g c = λ chained. on_err c.from_residual.result (record { stopped = record { number = 0; place = 0; settled = refl }; rest = λ serial. inl refl })
+returns-in_err-looks-clause-refused g c = λ chained. on_err c.from_residual.result (record { stopped = record { number = 0; place = 0; rooted = inl refl; settled = refl }; rest = λ serial. inl refl })
 
 pub returns-in_err-looks-clause-touched : goal.returns-in_err-looks-clause-touched
 returns-in_err-looks-clause-touched g c = changes_none (scene_of c.args.shown.now) c.args.findings.now.seen c.args.findings.now.clips.touches
@@ -36,9 +37,13 @@ settle_stale-requires-clause-margins g c = c.requires.margins ∙ sym c.loop-num
 
 pub returns-in_err-queued-clause-stopped : goal.returns-in_err-queued-clause-stopped
 returns-in_err-queued-clause-stopped g c =
+    let document = c.args.document.0 in
+    let number = c.loop-number.number in
+    let rooted = sym (c.is_looked_at.ensures ∙ ap (λ (tree : Tree). is_rooted_in tree document (watcher_at c.loop-number.watchers number).root) c.page.ensures) ∙ c.if-is_looked_at.true in
     on_err c.from_residual-in_err-queued.result
-    (stopped_at c.args.shown.now c.args.scroll_margins.now c.args.shown.now.tree c.args.document.0 c.args.time c.args.watchers.now c.loop-number.number c.loop-number.watchers c.settle_stale.new.watchers
-    c.loop-number.invariant.kept.given c.loop-number.invariant.settled c.in_err-queued.ensures.stopped)
+    (stopped_at c.args.shown.now c.args.scroll_margins.now c.args.shown.now.tree document c.args.time c.args.watchers.now number c.loop-number.watchers c.settle_stale.new.watchers
+    c.loop-number.invariant.kept.given c.loop-number.invariant.settled c.in_err-queued.ensures.stopped
+    (sym (ap (is_rooted_in c.args.shown.now.tree document) (c.loop-number.invariant.kept.carried.alike number).root) ∙ rooted))
 
 pub returns-in_err-queued-clause-touched : goal.returns-in_err-queued-clause-touched
 returns-in_err-queued-clause-touched g c =
@@ -103,6 +108,7 @@ returns-in_err-queued-clause-refused g c =
     let number = c.loop-number.number in
     let so_far = c.loop-number.invariant in
     let carried = so_far.kept.carried in
+    let rooted = sym (c.is_looked_at.ensures ∙ ap (λ (tree : Tree). is_rooted_in tree document (watcher_at c.loop-number.watchers number).root) c.page.ensures) ∙ c.if-is_looked_at.true in
     λ chained.
     let refused = c.in_err-queued.ensures.refused chained in
     on_err c.from_residual-in_err-queued.result
@@ -110,6 +116,7 @@ returns-in_err-queued-clause-refused g c =
       stopped = record {
         number = number;
         place = refused.begun.place;
+        rooted = inr (sym (ap (is_rooted_in shown.tree document) (carried.alike number).root) ∙ rooted);
         settled = stopped_settled shown margins shown.tree document c.args.time c.args.watchers.now number c.loop-number.watchers c.settle_stale.new.watchers so_far.kept.given so_far.settled refused.begun;
       };
       rest = kept_to shown margins chained document was it carried number c.args.findings.now.kept c.loop-number.findings.kept c.settle_stale.new.findings.kept (so_far.leaves chained) (c.settle_stale.ensures.same chained) c.settle_stale.ensures.others
@@ -153,8 +160,12 @@ loop-number-preserved g c =
                 subst (Totals shown margins chained c.args.document.0 was.part (number + 1) c.args.findings.now c.if-is_looked_at.findings c.args.steps.now) (sym w.steps-is)
                 (subst (λ (it : HeldFindings). Totals shown margins chained c.args.document.0 was.part (number + 1) c.args.findings.now it c.args.steps.now w.settle_stale.new.steps) (sym w.findings-is)
                 (totals_more shown margins chained c.args.document.0 was.part now.part so_far.kept.carried number c.args.findings.now c.loop-number.findings w.settle_stale.new.findings c.args.steps.now c.loop-number.steps w.settle_stale.new.steps
-                there (sym looked ∙ w.if-is_looked_at.true) (so_far.totals chained) w.clips.ensures.numbered w.settle_stale.ensures.looked.touched w.settle_stale.ensures.others w.in_ok-queued.ensures.pairs
-                w.in_ok-queued.ensures.listed (w.in_ok-queued.ensures.paid chained)));
+                there (sym looked ∙ w.if-is_looked_at.true) (so_far.totals chained) w.clips.ensures.numbered w.settle_stale.ensures.looked.touched w.settle_stale.ensures.others w.settle_stale.ensures.pairs
+                w.settle_stale.ensures.listed (w.settle_stale.ensures.paid chained)));
+            current = λ chained.
+                subst (AreCurrent shown chained was.part c.args.document.0 (number + 1)) (sym w.findings-is)
+                (current_more shown chained was.part c.args.document.0 now.part so_far.kept.carried number margins c.loop-number.findings w.settle_stale.new.findings so_far.registered so_far.looks.seen
+                w.settle_stale.ensures.looked.touched w.settle_stale.ensures.pairs (w.in_ok-queued.ensures.current chained) (so_far.current chained));
             computed = subst (λ (it : HeldFindings). KeepsComputed c.args.findings.now.clips it.clips) (sym w.findings-is)
                 (λ serial some. w.settle_stale.ensures.computed serial (so_far.computed serial some));
             end = so_far.end;
@@ -180,6 +191,9 @@ loop-number-preserved g c =
                 (subst (λ (it : HeldFindings). Totals shown margins chained c.args.document.0 was.part (number + 1) c.args.findings.now it c.args.steps.now c.loop-number.steps) (sym w.findings-is)
                 (totals_skip shown margins chained c.args.document.0 was.part now.part so_far.kept.carried number c.args.findings.now c.loop-number.findings c.args.steps.now c.loop-number.steps
                 there (sym looked ∙ w.if-is_looked_at.false) (so_far.totals chained)));
+            current = λ chained.
+                subst (AreCurrent shown chained was.part c.args.document.0 (number + 1)) (sym w.findings-is)
+                (current_skip shown chained was.part c.args.document.0 now.part so_far.kept.carried number c.loop-number.findings (sym looked ∙ w.if-is_looked_at.false) (so_far.current chained));
             computed = subst (λ (it : HeldFindings). KeepsComputed c.args.findings.now.clips it.clips) (sym w.findings-is) so_far.computed;
             end = so_far.end;
           }
@@ -245,10 +259,60 @@ returns-clause-fresh g c =
     ∙ (c.loop-number.invariant.leaves chained).fresh serial before
     (omega (arith, there_is shown c.args.document.0 was serial before, c.loop-number.invariant.end, c.loop-number-test.false, c.loop-number.auto.number-end))
 
+pub returns-clause-current : goal.returns-clause-current
+returns-clause-current g c =
+    let shown = c.args.shown.now in
+    let was = c.args.watchers.now.part in
+    let it = c.loop-number.watchers.part in
+    let carried = c.loop-number.invariant.kept.carried in
+    λ chained below serial looked.
+    let before = looked_at_before shown c.args.document.0 was it carried serial looked in
+    current_then shown chained was it carried c.loop-number.findings.clips serial
+    (c.loop-number.invariant.current chained below serial before
+    (omega (arith, there_is shown c.args.document.0 was serial before, c.loop-number.invariant.end, c.loop-number-test.false, c.loop-number.auto.number-end)))
+
 pub returns-clause-ticks : goal.returns-clause-ticks
 returns-clause-ticks g c = λ chained.
     totals_all c.args.shown.now c.args.scroll_margins.now chained c.args.document.0 c.args.watchers.now.part c.loop-number.number c.args.findings.now c.loop-number.findings c.args.steps.now c.loop-number.steps
-    (omega (arith, c.loop-number.invariant.end, c.loop-number-test.false, c.loop-number.auto.number-end)) (c.loop-number.invariant.totals chained)
+    (omega (arith, c.loop-number.invariant.end, c.loop-number.auto.number-end)) (c.loop-number.invariant.totals chained).paid
+
+pub returns-in_err-queued-clause-ticks : goal.returns-in_err-queued-clause-ticks
+returns-in_err-queued-clause-ticks g c =
+    let shown = c.args.shown.now in
+    let margins = c.args.scroll_margins.now in
+    let document = c.args.document.0 in
+    let was = c.args.watchers.now.part in
+    let it = c.loop-number.watchers.part in
+    let number = c.loop-number.number in
+    let so_far = c.loop-number.invariant in
+    let carried = so_far.kept.carried in
+    let rooted = sym (c.is_looked_at.ensures ∙ ap (λ (tree : Tree). is_rooted_in tree document (watcher_at c.loop-number.watchers number).root) c.page.ensures) ∙ c.if-is_looked_at.true in
+    let there : number < length was.made = omega (arith, so_far.end, c.loop-number-test.true) in
+    λ chained.
+    totals_all shown margins chained document was (number + 1) c.args.findings.now c.settle_stale.new.findings c.args.steps.now c.settle_stale.new.steps (omega (arith, there))
+    (paid_here shown margins chained document was it carried number c.args.findings.now c.loop-number.findings c.settle_stale.new.findings c.args.steps.now c.loop-number.steps c.settle_stale.new.steps there rooted
+    (so_far.totals chained) c.clips.ensures.numbered c.settle_stale.ensures.looked.touched c.settle_stale.ensures.listed (c.settle_stale.ensures.paid chained))
+
+pub returns-in_err-looks-clause-ticks : goal.returns-in_err-looks-clause-ticks
+returns-in_err-looks-clause-ticks g c = λ chained. omega arith
+
+pub returns-clause-pairs : goal.returns-clause-pairs
+returns-clause-pairs g c = (c.loop-number.invariant.totals (chained_of c.args.shown.now c.document_count.ensures.page)).apart
+
+pub returns-in_err-queued-clause-pairs : goal.returns-in_err-queued-clause-pairs
+returns-in_err-queued-clause-pairs g c =
+    let shown = c.args.shown.now in
+    let document = c.args.document.0 in
+    let was = c.args.watchers.now.part in
+    let it = c.loop-number.watchers.part in
+    let number = c.loop-number.number in
+    let so_far = c.loop-number.invariant in
+    let carried = so_far.kept.carried in
+    let rooted = sym (c.is_looked_at.ensures ∙ ap (λ (tree : Tree). is_rooted_in tree document (watcher_at c.loop-number.watchers number).root) c.page.ensures) ∙ c.if-is_looked_at.true in
+    let there : number < length was.made = omega (arith, so_far.end, c.loop-number-test.true) in
+    let chained = chained_of shown c.document_count.ensures.page in
+    apart_here shown c.args.scroll_margins.now chained document was it carried number c.args.findings.now c.loop-number.findings c.settle_stale.new.findings c.args.steps.now c.loop-number.steps c.settle_stale.new.steps there rooted
+    (so_far.totals chained) c.settle_stale.ensures.pairs
 
 pub returns-in_err-queued-clause-computed : goal.returns-in_err-queued-clause-computed
 returns-in_err-queued-clause-computed g c = λ serial some. c.settle_stale.ensures.computed serial (c.loop-number.invariant.computed serial some)

@@ -3,6 +3,7 @@ use Rattle.kept_findings.specs.Registered.{AreRegistered}
 use Rattle.kept_findings.specs.Rooms.{HaveRoom}
 use Rattle.intersection_update.specs.Updating.{AreKept}
 use Rattle.intersection_update.specs.Keeping.{HaveChains, KeepsComputed, HaveLooked}
+use Rattle.intersection_update.proofs.Current.{AreCurrent}
 use Rattle.intersection_update.proofs.Observers.{Looks, Leaves}
 use Rattle.intersection_update.proofs.Totals.{Totals}
 use Rattle.intersection_update.proofs.Updates.{first_observers, first_told}
@@ -19,6 +20,7 @@ invariant-loop-number g l = record {
   looks : Looks l.shown l.document.0 l.fn.watchers.part l.number l.fn.findings l.findings;
   leaves : (chained : HaveChains l.shown) → Leaves l.shown l.scroll_margins chained l.document.0 l.fn.watchers.part l.number l.fn.findings.kept l.findings.kept;
   totals : (chained : HaveChains l.shown) → Totals l.shown l.scroll_margins chained l.document.0 l.fn.watchers.part l.number l.fn.findings l.findings l.fn.steps l.steps;
+  current : (chained : HaveChains l.shown) → AreCurrent l.shown chained l.fn.watchers.part l.document.0 l.number l.findings;
   computed : KeepsComputed l.fn.findings.clips l.findings.clips;
   end : l.number-end ≡ length l.fn.watchers.part.made;
 }
