@@ -1,6 +1,7 @@
 -- A source that was read, up to what is looked at, and one that can't be read.
 use Rattle.std.proofs.Common.{◌≡◌, ◌∙◌, ap, refl, subst, sym, ℕ, List, Option}
 use Rattle.std.specs.Prelude.{Some, None, IfSome}
+use Rattle.text_io.specs.Streams.{TakesAtMost}
 use Rattle.script_model.specs.Reading.{Reading, reading}
 use Rattle.page_model.specs.Outcome.{outcome_read}
 use Rattle.page_model.specs.World.{World}
@@ -14,7 +15,7 @@ use Rattle.run_replies.specs.declared.words.Words.TheVariants.{Generated}
 use Rattle.run_replies.specs.declared.status.Status.{Status}
 use Rattle.run_replies.specs.declared.status.Status.TheVariants.{NoMemory, ReadFault}
 use Rattle.run_replies.proofs.Endings.{tells_end}
-use Rattle.run_replies.proofs.Taking.{first_bytes_read, taken}
+use Rattle.run_replies.proofs.Taking.{failed_taken, first_bytes_read, taken}
 
 -- by the first bytes
 
@@ -41,6 +42,11 @@ pub unread_unfailed : (status : Status) (f g : ℕ) → IsUnread status f g → 
 unread_unfailed ReadFault f g cause other = absurd (other refl)
 unread_unfailed NoMemory f g cause other = cause
 unread_unfailed status f g cause other = absurd cause
+
+pub unread_taken : (status : Status) (f g : ℕ) (left rest : Option (List ℕ)) → IsUnread status f g → TakesAtMost left rest 16777217 → IfSome left (λ text. IsTaken status 16777217 text rest)
+unread_taken ReadFault f g left rest cause took = failed_taken 16777217 left rest took
+unread_taken NoMemory f g left rest cause took = failed_taken 16777217 left rest took
+unread_taken status f g left rest cause took = absurd cause
 
 -- where none is asked for
 

@@ -90,8 +90,9 @@ fn perform_on_number<K: Sink, L: Ledger>(
 /// leaves it unchanged.
 ///
 /// - `Done`, `Syntax`, `Limit` and `Differs`: exactly as the reply to the words and the source's bytes says, and all of its
-///   text was written. A source that was read is at its end then; if it has more bytes than it may have, one more than that
-///   many were consumed.
+///   text was written.
+/// - A source that was read is at its end after these and `WriteFault`; if it has more bytes than it may have, one more than that
+///   many were consumed. After `NoMemory` and `ReadFault` no more than these were.
 /// - With `--pages` and one of these statuses, each page's lines in the output are the trace of its script alone, unless the
 ///   stream is rejected.
 /// - `ReadFault` and `WriteFault`: only if that fault count rose in this call; with any other status that count is unchanged.

@@ -6,6 +6,7 @@ use Rattle.text_io.specs.declared.kinds.LimitKind.{LimitKind}
 use Rattle.script_model.specs.Reading.{Refusal, SyntaxAt, LimitAt, refusal_line}
 use Rattle.script_model.specs.Summary.{summary_text}
 use Rattle.script_model.specs.TraceLines.{TraceLine, LimitLine}
+use Rattle.script_model.specs.TraceText.{line_text}
 use Rattle.page_model.specs.Outcome.{bytes_of, refused_ending}
 use Rattle.trace_text.specs.Ranges.{IsLine}
 use Rattle.trace_runs.specs.declared.faults.RunFault.{RunFault}
@@ -70,6 +71,10 @@ gathered_more before after lines more it said = record {
   makes = sym (bytes_both lines more) ∙ ap (λ t. t ++ bytes_of more) it.makes ∙ sym said.written;
 }
 
+-- with a line behind it
+with_line : (before after : List ℕ) (line : TraceLine) → Says (Some before) (Some after) (line ∷ []) → after ≡ before ++ line_text line
+with_line before after line said = said.written ∙ ap (λ t. before ++ t) (sym (bytes_one line))
+
 -- a summary that was written of the lines that were read
 pub summary_wrote : {A : Type 0} (r : Result A RunFault) (before after : Option (List ℕ)) (f g : ℕ) (summary : Summary) (found lines : List TraceLine) → summary ≡ summary_of found → found ≡ lines
     → rows_text (summary_of lines) ≡ summary_text lines → Wrote r before after f g (rows_text summary) → Wrote r before after f g (summary_text lines)
@@ -86,6 +91,22 @@ limit_tells r kind line most gathered taken status before after f g lines said i
     let more = gathered_more gathered taken lines (LimitLine kind line most ∷ []) is said in
     subst (λ (s : Status). Tells s (record { text = summary_text all; status = Limit }) before after f g) (sym status_is)
     (wrote_tells r Limit (summary_text all) before after f g tt (wrote all more))
+
+-- the same by the whole text
+pub whole_tells : {A : Type 0} (r : Result A RunFault) (limit : TraceLine) (gathered taken : List ℕ) (status : Status) (before after : Option (List ℕ)) (f g : ℕ) (lines : List TraceLine)
+    → Says (Some gathered) (Some taken) (limit ∷ []) → IsTrace (gathered ++ line_text limit) lines → ((all : List TraceLine) → IsTrace taken all → Wrote r before after f g (summary_text all))
+    → status ≡ status_after r Limit → Tells status (record { text = summary_text lines; status = Limit }) before after f g
+whole_tells r limit gathered taken status before after f g lines said is wrote status_is =
+    subst (λ (s : Status). Tells s (record { text = summary_text lines; status = Limit }) before after f g) (sym status_is)
+    (wrote_tells r Limit (summary_text lines) before after f g tt
+    (wrote lines (subst (λ (text : List ℕ). IsTrace text lines) (sym (with_line gathered taken limit said)) is)))
+
+pub whole_other : {A S : Type 0} (r : Result A RunFault) (limit : TraceLine) (gathered taken : List ℕ) (status : Status) (old new : S)
+    → Says (Some gathered) (Some taken) (limit ∷ []) → ((lines : List TraceLine) → IsTrace (gathered ++ line_text limit) lines → ⊥)
+    → (((lines : List TraceLine) → IsTrace taken lines → ⊥) → (r ≡ Err fault.Memory) × (new ≡ old)) → status ≡ status_after r Limit → (status ≡ NoMemory) × (new ≡ old)
+whole_other r limit gathered taken status old new said none other status_is =
+    let found = other (λ lines is. none lines (subst (λ (text : List ℕ). IsTrace text lines) (with_line gathered taken limit said) is)) in
+    (status_is ∙ ap (λ it. status_after it Limit) found.0, found.1)
 
 pub limit_not_done : {A : Type 0} (r : Result A RunFault) → is_done (status_after r Limit) ≡ false
 limit_not_done (Ok done) = refl

@@ -1,6 +1,7 @@
 -- What each status says of a call: whether its reply was written whole, in part, or not at all.
 use Rattle.std.specs.Prelude.{◌≡◌, ℕ, List, [], drop, Option, Some}
 use Rattle.std.specs.Io.KnownBytes.{Appends}
+use Rattle.text_io.specs.Streams.{TakesAtMost}
 use Rattle.trace_runs.specs.Writes.{AppendsPart, FailsWithin}
 use Rattle.run_replies.specs.Replies.{Reply}
 use Rattle.run_replies.specs.declared.status.Status.{Status}
@@ -20,10 +21,10 @@ abbrev pub Ends : Status → Reply → Option (List ℕ) → Option (List ℕ) �
 Ends ReadFault reply before after faults faults_after = Appends before after []
 Ends status reply before after faults faults_after = Tells status reply before after faults faults_after
 
--- how many bytes were taken of a source of which at most `most` are looked at: so many, or all if it has fewer
+-- how many bytes were taken of a source of which at most `most` are looked at: so many, or all if it has fewer; where memory ran out or
+-- a read failed, maybe less than that
 abbrev pub IsTaken : Status → ℕ → List ℕ → Option (List ℕ) → Type 0
-IsTaken NoMemory most source left = Unit {0}
-IsTaken WriteFault most source left = Unit {0}
-IsTaken ReadFault most source left = Unit {0}
+IsTaken NoMemory most source left = TakesAtMost (Some source) left most
+IsTaken ReadFault most source left = TakesAtMost (Some source) left most
 IsTaken Usage most source left = Unit {0}
 IsTaken status most source left = left ≡ Some (drop most source)

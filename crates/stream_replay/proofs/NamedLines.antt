@@ -22,10 +22,7 @@ use Rattle.trace_summary.proofs.Traces.{FeedLaw}
 use Rattle.trace_judge.specs.Lines.{lines_of}
 use Rattle.trace_judge.proofs.Splits.{lines_by_first}
 use Rattle.stream_runs.specs.StreamRuns.{named_text}
-
--- the lines of a text with a name before each
-abbrev pub named_lines : List ℕ → List ℕ → List ℕ
-named_lines name text = flat_map (λ line. name ++ (32 ∷ line)) (lines_of text)
+use Rattle.stream_replay.specs.NamedTexts.{named_lines}
 
 named_first : (name text : List ℕ) → 0 < length text → named_lines name text ≡ (name ++ (32 ∷ first_line text)) ++ named_lines name (behind_line text)
 named_first name text some = ap (λ lines. flat_map (λ line. name ++ (32 ∷ line)) lines) (lines_by_first text some)

@@ -1,3 +1,4 @@
 pub mod StreamStatuses
 pub mod StreamPages
 pub mod StreamReplies
+pub mod NamedTexts

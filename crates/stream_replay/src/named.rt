@@ -5,6 +5,7 @@ ghost use Rattle.script_model.specs.TraceLines.{TraceLine as LineModel};
 ghost use Rattle.trace_runs.specs.Writes.{Wrote};
 ghost use Rattle.trace_summary.specs.Counts.{IsTrace};
 ghost use Rattle.stream_runs.specs.StreamRuns.{named_text};
+ghost use Rattle.stream_replay.specs.NamedTexts.{named_lines};
 
 use std::alloc::{AllocError, Global};
 use text_io::{Name, Sink};
@@ -36,7 +37,7 @@ fn write_line<K: Sink>(
     }
 }
 
-/// Writes the lines of a trace, each prefixed with the page's name and a space.
+/// Writes the lines of a trace, or of any text, each prefixed with the page's name and a space.
 ///
 /// - `WriteFault` only if the sink's fault count rose in this call; a prefix of the text was written.
 /// - `Memory` if an allocation fails. No other error occurs.
@@ -46,7 +47,8 @@ pub fn write_named<K: Sink>(
     trace: &[u8],
     sink: &mut K,
 ) -> Result<(), RunFault>
-    ensures { (lines : List LineModel) → IsTrace trace.now lines →
+    ensures text { Wrote result (K.taken sink.old) (K.taken sink.new) (K.faults sink.old) (K.faults sink.new) (named_lines name.now trace.now) }
+    ensures of_trace { (lines : List LineModel) → IsTrace trace.now lines →
         Wrote result (K.taken sink.old) (K.taken sink.new) (K.faults sink.old) (K.faults sink.new) (named_text name.now lines) }
 {
     // the law by which a line ends where it is cut off

@@ -302,10 +302,12 @@ fn run_bytes<K: Sink, L: Ledger>(
 /// Runs the scripts of the pages in the source side by side, and writes each line as it is produced, with the name of its
 /// page.
 ///
-/// - `Done`, `Syntax` and `Limit`: exactly as the reply to the source's bytes says, and all of its text was written. The
-///   source is at its end then; of more than 16,777,216 bytes one more than that many were consumed. `Usage` doesn't occur.
+/// - `Done`, `Syntax` and `Limit`: exactly as the reply to the source's bytes says, and all of its text was written. `Usage`
+///   doesn't occur.
 /// - `ReadFault` and `WriteFault`: only if that fault count rose in this call; nothing was written, or a prefix of the text,
 ///   respectively. With any other status that count is unchanged. `NoMemory` if an allocation fails, after a prefix of the text.
+/// - The source is at its end after `Done`, `Syntax`, `Limit` and `WriteFault`; of more than 16,777,216 bytes one more than that
+///   many were consumed. After `NoMemory` and `ReadFault` no more than these were.
 pub fn run_pages<S: Source, K: Sink, L: Ledger>(
     alloc: Global,
     source: &mut S,

@@ -1,6 +1,8 @@
 -- The rows of a summary, written one after another.
-use Rattle.std.proofs.Common.{◌≡◌, ◌∙◌, refl, sym, ap, ℕ, ◌+◌, ◌<◌, ◌≤◌, List, [], ◌∷◌, ◌++◌, length, drop, get_or, Option, append_assoc, subst}
-use Rattle.std.proofs.lemmas.List.{append-nil, drop_more, drop_all}
+use Rattle.std.proofs.Common.{◌≡◌, ◌∙◌, refl, sym, ap, ℕ, ◌+◌, ◌<◌, ◌≤◌, List, [], ◌∷◌, ◌++◌, length, map, take, drop, get_or, Option, append_assoc, subst}
+use Rattle.std.proofs.lemmas.List.{append-nil, drop_more, take_all, take_more, take-append-drop, take-map}
+use Rattle.std.proofs.lemmas.List.Folds.{flat_map-map}
+use Rattle.std.proofs.lemmas.Grind.{flat_map-append}
 use Rattle.std.specs.Borrow.{Bor}
 use Rattle.std.specs.Prelude.{flat_map, Ok, Err}
 use Rattle.std.specs.Io.KnownBytes.{Appends}
@@ -8,7 +10,7 @@ use Rattle.trace_runs.specs.declared.faults.RunFault.{RunFault}
 use Rattle.trace_runs.specs.declared.faults.RunFault.TheVariants.{Limit, Memory, WriteFault}
 use Rattle.trace_runs.specs.Writes.{AppendsPart, FailsWithin, Wrote}
 use Rattle.word_model.specs.Numbers.{decimal}
-use Rattle.trace_summary.specs.Counts.{row_text}
+use Rattle.trace_summary.specs.Counts.{row_text, text_of}
 use Rattle.trace_runs.proofs.Writes.{nothing, both, part_begins, part_behind, failure_begins, failure_behind}
 
 -- a first part of a text was written, no write failed, and the rest follows
@@ -21,15 +23,6 @@ pub record Writing (before now : Option (List ℕ)) (faults faults_now : ℕ) (w
 pub writing_none : (now : Option (List ℕ)) (faults : ℕ) (whole : List ℕ) → Writing now now faults faults whole whole
 writing_none now faults whole = record { part = []; makes = refl; written = nothing now; unfailed = refl }
 
-pub writing_more : {before mid after : Option (List ℕ)} {f fm g : ℕ} {whole : List ℕ} (text rest : List ℕ) → Writing before mid f fm whole (text ++ rest)
-    → Wrote {A = Unit {0}} (Ok tt) mid after fm g text → Writing before after f g whole rest
-writing_more {before} {mid} {after} text rest here wrote = record {
-  part = here.part ++ text;
-  makes = append_assoc here.part text rest ∙ here.makes;
-  written = both before mid after here.part text here.written wrote.0;
-  unfailed = wrote.1 ∙ here.unfailed;
-}
-
 pub writing_cut : (fault : RunFault) (before mid after : Option (List ℕ)) (f fm g : ℕ) (whole text rest : List ℕ) → Writing before mid f fm whole (text ++ rest)
     → Wrote {A = Unit {0}} (Err fault) mid after fm g text → Wrote {A = Unit {0}} (Err fault) before after f g whole
 writing_cut (Limit kind line number) before mid after f fm g whole text rest here wrote = absurd wrote
@@ -38,10 +31,6 @@ writing_cut Memory before mid after f fm g whole text rest here wrote =
 writing_cut WriteFault before mid after f fm g whole text rest here wrote =
     subst (λ (t : List ℕ). FailsWithin before after f g t) here.makes (failure_behind before f here.part here.written here.unfailed (failure_begins rest wrote))
 
-pub writing_done : {before now : Option (List ℕ)} {f g : ℕ} {whole : List ℕ} → Writing before now f g whole [] → Wrote {A = Unit {0}} (Ok tt) before now f g whole
-writing_done {before} {now} here =
-    (subst (λ (t : List ℕ). Appends before now t) (sym (append-nil here.part) ∙ here.makes) here.written, here.unfailed)
-
 -- rows, each a kind and its count
 abbrev pub Row : Type 0
 Row = Bor (List ℕ) × ℕ
@@ -49,14 +38,14 @@ Row = Bor (List ℕ) × ℕ
 abbrev pub row_of : Row → List ℕ
 row_of r = row_text r.0.now r.1
 
+abbrev pub kind_of : Row → List ℕ × ℕ
+kind_of r = (r.0.now, r.1)
+
 abbrev pub texts : List Row → List ℕ
 texts rows = flat_map row_of rows
 
 pub texts_more : (rows : List Row) (place : ℕ) (none : Row) → place < length rows → texts (drop place rows) ≡ row_of (get_or rows place none) ++ texts (drop (place + 1) rows)
 texts_more rows place none within = ap texts (drop_more rows place none within)
-
-pub texts_none : (rows : List Row) (place : ℕ) → length rows ≤ place → texts (drop place rows) ≡ []
-texts_none rows place past = ap texts (drop_all place rows past)
 
 -- a row, part by part
 pub row_pushed : (kind : List ℕ) (count : ℕ) (first second third whole : List ℕ) → first ≡ kind → second ≡ first ++ (32 ∷ []) → third ≡ second ++ decimal count
@@ -65,23 +54,60 @@ unfolding row_text
 row_pushed kind count first second third whole a b c d =
     d ∙ ap (λ text. text ++ (10 ∷ [])) (c ∙ ap (λ text. text ++ decimal count) (b ∙ ap (λ text. text ++ (32 ∷ [])) a) ∙ append_assoc kind (32 ∷ []) (decimal count))
 
-pub row_written : {before mid after : Option (List ℕ)} {f fm g : ℕ} {whole : List ℕ} (rows : List Row) (place : ℕ) (none : Row) → place < length rows
-    → Writing before mid f fm whole (texts (drop place rows)) → Wrote {A = Unit {0}} (Ok tt) mid after fm g (row_of (get_or rows place none))
-    → Writing before after f g whole (texts (drop (place + 1) rows))
-row_written {before} {mid} {f = f} {fm} {whole = whole} rows place none within here wrote =
-    writing_more (row_of (get_or rows place none)) (texts (drop (place + 1) rows))
-    (subst (λ (t : List ℕ). Writing before mid f fm whole t) (texts_more rows place none within) here)
+-- the first rows were written, and no write failed
+pub record WroteRows (before now : Option (List ℕ)) (faults faults_now : ℕ) (rows : List Row) (place : ℕ) : Type 0 where
+  pub written : Appends before now (texts (take place rows))
+  pub unfailed : faults_now ≡ faults
+
+pub rows_none : (now : Option (List ℕ)) (faults : ℕ) (rows : List Row) → WroteRows now now faults faults rows 0
+rows_none now faults rows = record { written = nothing now; unfailed = refl }
+
+pub rows_more : {before mid after : Option (List ℕ)} {f fm g : ℕ} (rows : List Row) (place : ℕ) (none : Row) → place < length rows → WroteRows before mid f fm rows place
+    → Wrote {A = Unit {0}} (Ok tt) mid after fm g (row_of (get_or rows place none)) → WroteRows before after f g rows (place + 1)
+rows_more {before} {mid} {after} rows place none within here wrote = record {
+  written = subst (λ (t : List ℕ). Appends before after t) (sym longer) (both before mid after (texts (take place rows)) (row_of row) here.written wrote.0);
+  unfailed = wrote.1 ∙ here.unfailed;
+}
+  where
+    row : Row
+    row = get_or rows place none
+
+    longer : texts (take (place + 1) rows) ≡ texts (take place rows) ++ row_of row
+    longer =
+        ap texts (take_more rows place none within)
+        ∙ flat_map-append row_of (take place rows) (row ∷ [])
+        ∙ ap (λ t. texts (take place rows) ++ t) (append-nil (row_of row))
+
+-- what was written of all rows
+writing_rows : {before now : Option (List ℕ)} {f g : ℕ} (rows : List Row) (place : ℕ) → WroteRows before now f g rows place
+    → Writing before now f g (texts rows) (texts (drop place rows))
+writing_rows rows place here = record {
+  part = texts (take place rows);
+  makes = sym (flat_map-append row_of (take place rows) (drop place rows)) ∙ ap texts (take-append-drop place rows);
+  written = here.written;
+  unfailed = here.unfailed;
+}
+
+pub row_cut : (fault : RunFault) (before mid after : Option (List ℕ)) (f fm g : ℕ) (rows : List Row) (place : ℕ) (none : Row) → place < length rows
+    → WroteRows before mid f fm rows place → Wrote {A = Unit {0}} (Err fault) mid after fm g (row_of (get_or rows place none))
+    → Wrote {A = Unit {0}} (Err fault) before after f g (texts rows)
+row_cut fault before mid after f fm g rows place none within here wrote =
+    writing_cut fault before mid after f fm g (texts rows) (row_of (get_or rows place none)) (texts (drop (place + 1) rows))
+    (subst (λ (t : List ℕ). Writing before mid f fm (texts rows) t) (texts_more rows place none within) (writing_rows rows place here))
     wrote
 
-pub row_cut : (fault : RunFault) (before mid after : Option (List ℕ)) (f fm g : ℕ) (whole : List ℕ) (rows : List Row) (place : ℕ) (none : Row) → place < length rows
-    → Writing before mid f fm whole (texts (drop place rows)) → Wrote {A = Unit {0}} (Err fault) mid after fm g (row_of (get_or rows place none))
-    → Wrote {A = Unit {0}} (Err fault) before after f g whole
-row_cut fault before mid after f fm g whole rows place none within here wrote =
-    writing_cut fault before mid after f fm g whole (row_of (get_or rows place none)) (texts (drop (place + 1) rows))
-    (subst (λ (t : List ℕ). Writing before mid f fm whole t) (texts_more rows place none within) here)
-    wrote
+pub rows_written : {before now : Option (List ℕ)} {f g : ℕ} (rows : List Row) (place : ℕ) → length rows ≤ place
+    → WroteRows before now f g rows place → Wrote {A = Unit {0}} (Ok tt) before now f g (texts rows)
+rows_written {before} {now} rows place past here =
+    (subst (λ (t : List ℕ). Appends before now t) (ap texts (take_all place rows past)) here.written, here.unfailed)
 
-pub rows_written : {before now : Option (List ℕ)} {f g : ℕ} {whole : List ℕ} (rows : List Row) (place : ℕ) → length rows ≤ place
-    → Writing before now f g whole (texts (drop place rows)) → Wrote {A = Unit {0}} (Ok tt) before now f g whole
-rows_written {before} {now} {f} {g} {whole} rows place past here =
-    writing_done (subst (λ (t : List ℕ). Writing before now f g whole t) (texts_none rows place past) here)
+-- by the rows that the summary has
+pub first_rows : (before now : Option (List ℕ)) (rows : List Row) (place : ℕ) (all : List (List ℕ × ℕ)) → map kind_of rows ≡ all
+    → Appends before now (texts (take place rows)) → Appends before now (text_of (take place all))
+first_rows before now rows place all is written = subst (λ (t : List ℕ). Appends before now t) (sym same) written
+  where
+    same : text_of (take place all) ≡ texts (take place rows)
+    same =
+        ap (λ (it : List (List ℕ × ℕ)). text_of (take place it)) (sym is)
+        ∙ ap text_of (take-map kind_of place rows)
+        ∙ flat_map-map (λ (row : List ℕ × ℕ). row_text row.0 row.1) kind_of (take place rows)

@@ -1,5 +1,5 @@
 -- How many lines of each kind a trace has, and the text that reports it: a line for each kind. This form is this project's own choice.
-use Rattle.std.specs.Prelude.{◌≡◌, ℕ, List, [], ◌∷◌, ◌++◌, codes}
+use Rattle.std.specs.Prelude.{◌≡◌, ℕ, List, [], ◌∷◌, ◌++◌, codes, flat_map}
 use Rattle.std.specs.List.{All}
 use Rattle.word_model.specs.Numbers.{decimal}
 use Rattle.script_model.specs.Summary.{count_of}
@@ -36,20 +36,29 @@ unfoldable pub row_text : List ℕ → ℕ → List ℕ
 unfolding decimal
 row_text kind count = kind ++ (32 ∷ decimal count) ++ (10 ∷ [])
 
+-- the kinds in their order, each with its count
+abbrev pub rows_of : Summary → List (List ℕ × ℕ)
+rows_of s =
+    (codes "tick", s.tick)
+    ∷ (codes "timer", s.timer)
+    ∷ (codes "frame", s.frame)
+    ∷ (codes "task", s.task)
+    ∷ (codes "event", s.event)
+    ∷ (codes "resize", s.resize)
+    ∷ (codes "round", s.round)
+    ∷ (codes "intersect", s.intersect)
+    ∷ (codes "take", s.take)
+    ∷ (codes "say", s.say)
+    ∷ (codes "read", s.read)
+    ∷ (codes "throw", s.throw)
+    ∷ (codes "limit", s.limit)
+    ∷ (codes "syntax", s.syntax)
+    ∷ []
+
+-- a line for each
+abbrev pub text_of : List (List ℕ × ℕ) → List ℕ
+text_of rows = flat_map (λ row. row_text row.0 row.1) rows
+
 unfoldable pub rows_text : Summary → List ℕ
 unfolding row_text
-rows_text s =
-    row_text (codes "tick") s.tick
-    ++ (row_text (codes "timer") s.timer
-    ++ (row_text (codes "frame") s.frame
-    ++ (row_text (codes "task") s.task
-    ++ (row_text (codes "event") s.event
-    ++ (row_text (codes "resize") s.resize
-    ++ (row_text (codes "round") s.round
-    ++ (row_text (codes "intersect") s.intersect
-    ++ (row_text (codes "take") s.take
-    ++ (row_text (codes "say") s.say
-    ++ (row_text (codes "read") s.read
-    ++ (row_text (codes "throw") s.throw
-    ++ (row_text (codes "limit") s.limit
-    ++ (row_text (codes "syntax") s.syntax ++ [])))))))))))))
+rows_text s = text_of (rows_of s)

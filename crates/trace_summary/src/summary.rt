@@ -1,13 +1,14 @@
 //! Counting the lines of a trace.
 
-ghost use Rattle.std.specs.Prelude.{◌≡◌, ◌++◌, length, List, [], ◌∷◌, flat_map, IfOk, OnOk, OnErr};
+ghost use Rattle.std.specs.Io.KnownBytes.{Appends};
+ghost use Rattle.std.specs.Prelude.{◌≡◌, ◌++◌, ℕ, length, List, [], ◌∷◌, flat_map, map, take, Err, IfOk, OnOk, OnErr};
 ghost use Rattle.script_model.specs.TraceLines.{TraceLine as LineModel};
 ghost use Rattle.script_model.specs.TraceText.{line_text};
 ghost use Rattle.trace_text.specs.Ranges.{IsLine};
 ghost use Rattle.trace_text.specs.Seen.{seen_line};
 ghost use Rattle.trace_runs.specs.Writes.{Wrote};
 ghost use Rattle.trace_summary.specs.Counting.{HasRoom, with_line};
-ghost use Rattle.trace_summary.specs.Counts.{IsTrace, summary_of, row_text, rows_text};
+ghost use Rattle.trace_summary.specs.Counts.{IsTrace, summary_of, row_text, rows_of, rows_text, text_of};
 
 use crate::lines::split_line;
 use std::alloc::{AllocError, Global};
@@ -64,7 +65,8 @@ fn row(alloc: Global, kind: &str, count: u64) -> Result<Vec<u8>, AllocError>
 }
 
 fn write_row<K: Sink>(alloc: Global, kind: &str, count: u64, sink: &mut K) -> Result<(), RunFault>
-    ensures { Wrote result (K.taken sink.old) (K.taken sink.new) (K.faults sink.old) (K.faults sink.new) (row_text kind.now count) }
+    ensures wrote { Wrote result (K.taken sink.old) (K.taken sink.new) (K.faults sink.old) (K.faults sink.new) (row_text kind.now count) }
+    ensures memory { result ≡ Err RunFault.Memory → sink.new ≡ sink.old }
 {
     match row(alloc, kind, count) {
         Ok(text) => write_text(sink, &text),
@@ -134,6 +136,7 @@ impl Summary {
     }
 
     fn rows(&self) -> [(&'static str, u64); 14]
+        ensures rows { map (λ r. (r.0.now, r.1)) result ≡ rows_of self.now }
         ensures text { flat_map (λ r. row_text r.0.now r.1) result ≡ rows_text self.now }
         ensures count { length result ≡ 14 }
     {
@@ -158,10 +161,12 @@ impl Summary {
     /// Writes a line for each kind, with its count, in the order of the kinds. Each line is passed to the sink separately.
     ///
     /// # Errors
-    /// `WriteFault` only where the sink's fault count rose in this call, or `Memory` if an allocation fails; a prefix of the
-    /// text was written then. No other fault.
+    /// - `WriteFault` only where the sink's fault count rose in this call; a prefix of the text was written then.
+    /// - `Memory` if an allocation fails; the lines of the first kinds were written then, each of them whole. No other fault.
     pub fn write_to<K: Sink>(&self, alloc: Global, sink: &mut K) -> Result<(), RunFault>
-        ensures { Wrote result (K.taken sink.old) (K.taken sink.new) (K.faults sink.old) (K.faults sink.new) (rows_text self.now) }
+        ensures wrote { Wrote result (K.taken sink.old) (K.taken sink.new) (K.faults sink.old) (K.faults sink.new) (rows_text self.now) }
+        ensures whole_rows { result ≡ Err RunFault.Memory →
+            (count : ℕ) × Appends (K.taken sink.old) (K.taken sink.new) (text_of (take count (rows_of self.now))) }
     {
         let rows = self.rows();
         for row in &rows {

@@ -1,6 +1,6 @@
 use Rattle.page_state.specs.Views.{PageView}
 use Rattle.run_replies.proofs.Telling.{not_read_fault, not_usage, unfailed, write_fault_rose}
-use Rattle.replay_run.proofs.Unread.{reads_taken, reads_to_end, reads_world, unread_unfailed}
+use Rattle.replay_run.proofs.Unread.{reads_taken, reads_to_end, reads_world, unread_taken, unread_unfailed}
 use Rattle.replay_run.proofs.call.perform_on_source.Goals as goal
 
 pub returns-in-Ok-clause-usage : goal.returns-in-Ok-clause-usage
@@ -23,6 +23,9 @@ returns-in-Ok-clause-unfailed_write g c = unfailed c.perform_on_text.result.stat
 
 pub returns-in-Err-clause-unfailed_read : goal.returns-in-Err-clause-unfailed_read
 returns-in-Err-clause-unfailed_read g c = rw c.without_page.ensures (unread_unfailed c.in-Err.status _ _ c.in-Err.ensures.cause)
+
+pub returns-in-Err-clause-read : goal.returns-in-Err-clause-read
+returns-in-Err-clause-read g c = rw c.without_page.ensures (unread_taken c.in-Err.status _ _ _ _ c.in-Err.ensures.cause c.in-Err.ensures.at_most)
 
 pub returns-in-Ok-clause-world : goal.returns-in-Ok-clause-world
 returns-in-Ok-clause-world g c = reads_world (λ (page : PageView). page.world) c.perform_on_text.result.page _ _ _ c.in-Ok.ensures.read c.perform_on_text.ensures.world

@@ -1,3 +1,4 @@
+use Rattle.run_replies.proofs.Taking.{failed_taken, taken_past}
 use Rattle.run_replies.proofs.Telling.{unfailed}
 use Rattle.replay_run.proofs.Judged.{ends_past, ends_whole, taken_whole}
 use Rattle.replay_run.proofs.judging.judge_source.Goals as goal
@@ -13,6 +14,16 @@ pub returns-in-Err-TooLong-clause-ends : goal.returns-in-Err-TooLong-clause-ends
 returns-in-Err-TooLong-clause-ends g c =
     let cause = rw c.in-Err-TooLong.field-0-is at c.in-Err-TooLong.ensures.fault in
     ends_past c.meet_limit.result _ _ c.in-Err-TooLong.feeds _ _ _ _ cause.2 c.meet_limit.ensures.tells
+
+pub returns-in-Err-TooLong-clause-read : goal.returns-in-Err-TooLong-clause-read
+returns-in-Err-TooLong-clause-read g c =
+    let cause = rw c.in-Err-TooLong.field-0-is at c.in-Err-TooLong.ensures.fault in taken_past c.meet_limit.result 67108864 c.in-Err-TooLong.feeds _ _ cause.2
+
+pub returns-in-Err-ReadFault-clause-read : goal.returns-in-Err-ReadFault-clause-read
+returns-in-Err-ReadFault-clause-read g c = failed_taken 67108865 _ _ c.in-Err-ReadFault.ensures.at_most
+
+pub returns-in-Err-clause-read : goal.returns-in-Err-clause-read
+returns-in-Err-clause-read g c = failed_taken 67108865 _ _ c.in-Err.ensures.at_most
 
 pub returns-in-Ok-clause-unfailed_write : goal.returns-in-Ok-clause-unfailed_write
 returns-in-Ok-clause-unfailed_write g c = unfailed c.judge_recorded.result _ _ _ _ _ c.judge_recorded.ensures

@@ -1,6 +1,6 @@
 use Rattle.std.proofs.Common.{length}
 use Rattle.trace_summary.proofs.Rows.{Writing}
-use Rattle.stream_replay.proofs.NamedLines.{named_lines}
+use Rattle.stream_replay.specs.NamedTexts.{named_lines}
 use Rattle.stream_replay.proofs.named.write_named.Given as goal
 
 -- the lines so far were written, and the rest is left

@@ -10,7 +10,7 @@ use Rattle.stream_replay.proofs.side_by_side.refuse_page.Goals as goal
 
 pub returns-clause-wrote : goal.returns-clause-wrote
 returns-clause-wrote g c =
-    c.write_named.ensures (seen_line c.args.line.now ∷ []) (subst (λ (text : List ℕ). IsTrace text (seen_line c.args.line.now ∷ [])) (sym c.taken.ensures)
+    c.write_named.ensures.of_trace (seen_line c.args.line.now ∷ []) (subst (λ (text : List ℕ). IsTrace text (seen_line c.args.line.now ∷ [])) (sym c.taken.ensures)
     (gathered_trace c.new-gathered.result.taken c.write_one.new.sink.taken (seen_line c.args.line.now ∷ []) (ap (λ (sink : Gathered). sink.taken) c.new-gathered.ensures) c.in-Ok-write_one.ensures.told.0))
 
 pub returns-clause-pages : goal.returns-clause-pages

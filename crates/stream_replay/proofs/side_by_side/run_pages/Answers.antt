@@ -1,4 +1,5 @@
 use Rattle.std.proofs.Common.{◌≤◌, arith, length, subst, ℕ, List}
+use Rattle.run_replies.proofs.Taking.{failed_taken, taken_past}
 use Rattle.run_replies.proofs.Telling.{unfailed}
 use Rattle.stream_replay.specs.StreamReplies.{IsolatesPages}
 use Rattle.stream_replay.proofs.PagesAsked.{pages_end_past, pages_taken, alone_end, past_alone}
@@ -13,6 +14,16 @@ pub returns-in-Err-TooLong-clause-ends : goal.returns-in-Err-TooLong-clause-ends
 returns-in-Err-TooLong-clause-ends g c =
     let cause = rw c.in-Err-TooLong.field-0-is at c.in-Err-TooLong.ensures.fault in
     pages_end_past c.meet_limit.result _ _ c.in-Err-TooLong.feeds _ _ _ _ cause.2 c.meet_limit.ensures.tells
+
+pub returns-in-Err-TooLong-clause-read : goal.returns-in-Err-TooLong-clause-read
+returns-in-Err-TooLong-clause-read g c =
+    let cause = rw c.in-Err-TooLong.field-0-is at c.in-Err-TooLong.ensures.fault in taken_past c.meet_limit.result 16777216 c.in-Err-TooLong.feeds _ _ cause.2
+
+pub returns-in-Err-ReadFault-clause-read : goal.returns-in-Err-ReadFault-clause-read
+returns-in-Err-ReadFault-clause-read g c = failed_taken 16777217 _ _ c.in-Err-ReadFault.ensures.at_most
+
+pub returns-in-Err-clause-read : goal.returns-in-Err-clause-read
+returns-in-Err-clause-read g c = failed_taken 16777217 _ _ c.in-Err.ensures.at_most
 
 pub returns-in-Ok-clause-unfailed_write : goal.returns-in-Ok-clause-unfailed_write
 returns-in-Ok-clause-unfailed_write g c = unfailed c.run_bytes.result _ _ _ _ _ c.run_bytes.ensures.tells
