@@ -1,7 +1,7 @@
 -- What a delivery hands to a callback.
-use Rattle.std.proofs.Common.{◌≤◌, arith, refl}
+use Rattle.std.proofs.Common.{◌≤◌, arith}
 use Rattle.std.proofs.lemmas.Int.{ints}
-use Rattle.std.specs.Prelude.{ℕ, ◌+◌, ◌<◌, ℤ, pos, negsuc, ◌≤ℤ◌, ◌-ℤ◌, unsigned_abs, List, Option, length, map, IfSome, Err}
+use Rattle.std.specs.Prelude.{ℕ, ◌+◌, ◌<◌, ℤ, pos, negsuc, ◌≤ℤ◌, ◌-ℤ◌, unsigned_abs, List, Option, length, map, IfSome}
 use Rattle.std.specs.List.{AllByRecursion}
 use Rattle.px_units.specs.Rects.{InReach}
 use Rattle.text_io.specs.declared.kinds.Version.{Version}
@@ -11,17 +11,12 @@ use Rattle.page_model.specs.World.{World, Name}
 use Rattle.page_model.specs.Gathering.{SizeEntry}
 use Rattle.page_model.specs.Operands.{ResizeEntry as Present}
 use Rattle.page_model.specs.Ranges.{IsPresentIn}
-use Rattle.page_model.specs.Runs.{Said, lifted}
 use Rattle.page_model.specs.Callbacks.{SizeEntries, device_told, resize_line}
 use Rattle.page_laws.proofs.Lists.{all-mapped}
 use Rattle.resize_observer.specs.Observations.{seen_size}
 use Rattle.depth_gather.specs.Entries.{seen_entry, IsLength, HasLengths}
 use Rattle.depth_gather.specs.declared.entries.ResizeEntry.{ResizeEntry}
 use Rattle.handlers.specs.Entries.{AreHanded}
-use Rattle.trace_runs.specs.declared.faults.RunFault.{RunFault}
-use Rattle.trace_runs.specs.Flows.{goes_on}
-use Rattle.trace_runs.specs.Runs.{Runs}
-use Rattle.trace_runs.proofs.Runs.{cut_as}
 use Rattle.frame_update.specs.Turns.{AreEntriesIn}
 
 most : (units : ℤ) → IsLength units → unsigned_abs units ≤ 281474976710656
@@ -74,8 +69,3 @@ are_handed world observer entries made targets lengths = record {
       all-mapped (λ (entry : SizeEntry). HasReach (resize_line (world.version) (world.names) observer entry)) HasReach (resize_line (world.version) (world.names) observer) (λ entry is. is) (map seen_entry entries)
       (all-mapped HasLengths (λ (entry : SizeEntry). HasReach (resize_line (world.version) (world.names) observer entry)) seen_entry (line-reaches (world.version) (world.names) observer) entries lengths);
 }
-
--- a callback was cut off, and with it what was to be done behind it
-pub delivery_cut : {A B : Type 0} {state : A → World} {state' : B → World} (change : World → World) (fault : RunFault) {before after : Option (List ℕ)} {f g : ℕ} {said : Said World}
-    → Runs goes_on state (Err fault) before after f g said → Runs goes_on state' (Err fault) before after f g (lifted change said)
-delivery_cut change fault {said = said} run = cut_as fault {other = lifted change said} refl (λ limited. limited) run

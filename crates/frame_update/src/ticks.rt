@@ -52,7 +52,7 @@ fn run_timed<'a, K: Sink, L: Ledger>(
 ) -> Result<(), RunFault>
     requires ready { IsPrepared script.now.items page.old.world }
     requires time { page.old.world.clock ≡ time }
-    ensures says { Runs goes_on (λ _. page.new.world) result (K.taken sink.old) (K.taken sink.new) (K.faults sink.old) (K.faults sink.new)
+    ensures says { Runs goes_on page.new.world result (K.taken sink.old) (K.taken sink.new) (K.faults sink.old) (K.faults sink.new)
         (tick (handlers_in script.now.items) page.old.world) }
     ensures ready { IfOk result (λ _. IsPrepared script.now.items page.new.world) }
 {
@@ -112,7 +112,7 @@ pub fn tick<K: Sink, L: Ledger>(
 ) -> Result<(), RunFault>
     requires ready { IsReady script.now.items page.old.world }
     requires time { IsTime time }
-    ensures says { Runs goes_on (λ _. page.new.world) result (K.taken sink.old) (K.taken sink.new) (K.faults sink.old) (K.faults sink.new)
+    ensures says { Runs goes_on page.new.world result (K.taken sink.old) (K.taken sink.new) (K.faults sink.old) (K.faults sink.new)
         (caught (run_tick (handlers_in script.now.items) line time page.old.world)) }
     ensures loops { AllByRecursion (IsExact (handlers_in script.now.items)) (item_loops (handlers_in script.now.items) (Tick line time) page.old.world) }
     ensures ready { IfOk result (λ _. IsReady script.now.items page.new.world) }

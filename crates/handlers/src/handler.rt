@@ -31,7 +31,7 @@ fn run_numbered<K: Sink, L: Ledger>(
     steps: &mut Steps<L>,
 ) -> Result<(), RunFault>
     requires targets { AreIn page.old.world (presents (entries_of entries.now)) }
-    ensures { Runs goes_on (λ _. page.new.world) result (K.taken sink.old) (K.taken sink.new) (K.faults sink.old) (K.faults sink.new)
+    ensures { Runs goes_on page.new.world result (K.taken sink.old) (K.taken sink.new) (K.faults sink.old) (K.faults sink.new)
         (run_handler (handlers_in script.now.items) (entries_of entries.now) (Some number) page.old.world) }
 {
     match script.handler(number) {
@@ -57,7 +57,7 @@ fn run_named<K: Sink, L: Ledger>(
     steps: &mut Steps<L>,
 ) -> Result<(), RunFault>
     requires targets { AreIn page.old.world (presents (entries_of entries.now)) }
-    ensures { Runs goes_on (λ _. page.new.world) result (K.taken sink.old) (K.taken sink.new) (K.faults sink.old) (K.faults sink.new)
+    ensures { Runs goes_on page.new.world result (K.taken sink.old) (K.taken sink.new) (K.faults sink.old) (K.faults sink.new)
         (run_handler (handlers_in script.now.items) (entries_of entries.now) (option_map (λ it. it.0) handler) page.old.world) }
 {
     match handler {
@@ -85,7 +85,7 @@ pub fn run_handler<K: Sink, L: Ledger>(
     steps: &mut Steps<L>,
 ) -> Result<(), RunFault>
     requires handed { AreHanded page.old.world (entries_of entries.now) }
-    ensures says { Runs goes_on (λ _. page.new.world) result (K.taken sink.old) (K.taken sink.new) (K.faults sink.old) (K.faults sink.new)
+    ensures says { Runs goes_on page.new.world result (K.taken sink.old) (K.taken sink.new) (K.faults sink.old) (K.faults sink.new)
         (call (handlers_in script.now.items) document.0 (option_map (λ it. it.0) handler) (entries_of entries.now) page.old.world) }
     ensures ready { IsReadyFor (length (handlers_in script.now.items)) page.old.world → IfOk result (λ _. IsReadyFor (length (handlers_in script.now.items)) page.new.world) }
 {
