@@ -39,6 +39,11 @@ broadcast_at least world = record { world = world; shallowest = least }
 abbrev pub world_in : Broadcast → World
 world_in so_far = so_far.world
 
+-- the least depth that a broadcast at its end tells of
+pub shallowest_is : {least : Option ℕ} {world : World} {before after : Option (List ℕ)} {f g : ℕ} {said : Said Broadcast} → Runs goes_on (broadcast_at least world) (Ok least) before after f g said
+    → said.state.shallowest ≡ least
+shallowest_is run = ap (λ (so_far : Broadcast). so_far.shallowest) run.ended.state_is
+
 -- turns by number ------------------------------------------------------------------------------------------------------------
 
 module _ (script : Script) (document : ℕ) where

@@ -47,4 +47,4 @@ module _ (script : Script) (document : ℕ) (handler : Option ℕ) where
     -- the writing of the line was cut off
     pub untold_run : {A : Type 0} {state : World} (fault : RunFault) → Told {A = Unit {0}} (Err fault) before after f g (line ∷ [])
         → Runs {A = A} goes_on state (Err fault) before after f g (told_call other world)
-    untold_run fault wrote = run_same (ap (λ it. told_call it world) named) (cut_saying {A = Unit {0}} fault (call script document handler NoEntries) wrote)
+    untold_run fault wrote = run_same (ap (λ it. told_call it world) named) (cut_saying fault (line ∷ []) world (call script document handler NoEntries) wrote)

@@ -1,7 +1,7 @@
 -- What a delivery hands to a callback.
-use Rattle.std.proofs.Common.{◌≤◌, arith}
+use Rattle.std.proofs.Common.{◌≡◌, ◌≤◌, arith, subst, sym}
 use Rattle.std.proofs.lemmas.Int.{ints}
-use Rattle.std.specs.Prelude.{ℕ, ◌+◌, ◌<◌, ℤ, pos, negsuc, ◌≤ℤ◌, ◌-ℤ◌, unsigned_abs, List, Option, length, map, IfSome}
+use Rattle.std.specs.Prelude.{ℕ, ◌+◌, ◌<◌, ℤ, pos, negsuc, ◌≤ℤ◌, ◌-ℤ◌, unsigned_abs, List, Option, length, map, IfSome, Result, Err}
 use Rattle.std.specs.List.{AllByRecursion}
 use Rattle.px_units.specs.Rects.{InReach}
 use Rattle.text_io.specs.declared.kinds.Version.{Version}
@@ -11,12 +11,18 @@ use Rattle.page_model.specs.World.{World, Name}
 use Rattle.page_model.specs.Gathering.{SizeEntry}
 use Rattle.page_model.specs.Operands.{ResizeEntry as Present}
 use Rattle.page_model.specs.Ranges.{IsPresentIn}
+use Rattle.page_model.specs.Runs.{Said, lifted}
 use Rattle.page_model.specs.Callbacks.{SizeEntries, device_told, resize_line}
 use Rattle.page_laws.proofs.Lists.{all-mapped}
 use Rattle.resize_observer.specs.Observations.{seen_size}
 use Rattle.depth_gather.specs.Entries.{seen_entry, IsLength, HasLengths}
 use Rattle.depth_gather.specs.declared.entries.ResizeEntry.{ResizeEntry}
 use Rattle.handlers.specs.Entries.{AreHanded}
+use Rattle.trace_runs.specs.declared.faults.RunFault.{RunFault}
+use Rattle.trace_runs.specs.declared.faults.RunFault.TheVariants.{Memory, WriteFault}
+use Rattle.trace_runs.specs.Flows.{goes_on}
+use Rattle.trace_runs.specs.Runs.{Runs}
+use Rattle.trace_runs.proofs.Runs.{lifted_run}
 use Rattle.frame_update.specs.Turns.{AreEntriesIn}
 
 most : (units : ℤ) → IsLength units → unsigned_abs units ≤ 281474976710656
@@ -69,3 +75,18 @@ are_handed world observer entries made targets lengths = record {
       all-mapped (λ (entry : SizeEntry). HasReach (resize_line (world.version) (world.names) observer entry)) HasReach (resize_line (world.version) (world.names) observer) (λ entry is. is) (map seen_entry entries)
       (all-mapped HasLengths (λ (entry : SizeEntry). HasReach (resize_line (world.version) (world.names) observer entry)) seen_entry (line-reaches (world.version) (world.names) observer) entries lengths);
 }
+
+-- a callback and what is done behind it, at its end and at a limit
+pub turn_run : {A : Type 0} {change : World → World} (result : Result A RunFault) {now new : World} {before after : Option (List ℕ)} {f g : ℕ} {said : Said World}
+    → new ≡ change now → Runs goes_on now result before after f g said → Runs goes_on new result before after f g (lifted change said)
+turn_run {change = change} result {before = before} {after} {f} {g} {said} is run =
+    subst (λ (world : World). Runs goes_on world result before after f g (lifted change said)) (sym is) (lifted_run change result run)
+
+-- a callback that was broken off, with what was to be done behind it
+pub memory_lifted : {A : Type 0} {change : World → World} {now new : World} {before after : Option (List ℕ)} {f g : ℕ} {said : Said World}
+    → Runs {A = A} goes_on now (Err Memory) before after f g said → Runs {A = A} goes_on new (Err Memory) before after f g (lifted change said)
+memory_lifted run = record { ended = tt; cut_off = run.cut_off }
+
+pub failure_lifted : {A : Type 0} {change : World → World} {now new : World} {before after : Option (List ℕ)} {f g : ℕ} {said : Said World}
+    → Runs {A = A} goes_on now (Err WriteFault) before after f g said → Runs {A = A} goes_on new (Err WriteFault) before after f g (lifted change said)
+failure_lifted run = record { ended = tt; cut_off = run.cut_off }

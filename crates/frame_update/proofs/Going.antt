@@ -37,6 +37,12 @@ module _ {K L A : Type 0} {taken : K → Option (List ℕ)} {faults : K → ℕ}
       → Goes taken faults old new (Ok value) said
   arrived script lent ready run = record { says = run; ready = ready; script = script; lent = lent }
 
+  -- it was cut off with this fault
+  pub cut_short : {fault : RunFault} → new.script ≡ old.script → loans_of new ≡ loans_of old
+      → Runs goes_on (world_of new) (Err fault) (taken old.sink.now) (taken new.sink.now) (faults old.sink.now) (faults new.sink.now) said
+      → Goes taken faults old new (Err fault) said
+  cut_short script lent run = record { says = run; ready = tt; script = script; lent = lent }
+
   -- it was run by the last step
   pub passed_on : {mid : Run K L} {last : Said World} {result : Result A RunFault} → Goes taken faults mid new result last → mid.script ≡ old.script → loans_of mid ≡ loans_of old
       → Runs goes_on (world_of new) result (taken old.sink.now) (taken new.sink.now) (faults old.sink.now) (faults new.sink.now) said

@@ -90,7 +90,7 @@ module _ (script : Script) (document : ℕ) (world : World) where
           → Told {A = Unit {0}} (Err fault) mid after fm g (RoundLine name least_depth ∷ []) → Runs {A = A} goes_on state (Err fault) before after f g (round script document world)
       round_unsaid name least_depth fault named is wrote =
           ended-run (Err fault)
-          (unsaid_run {A = Unit {0}} fault {lines = line ∷ []}
+          (unsaid_run fault {lines = line ∷ []}
           (subst (λ (it : TraceLine). Told {A = Unit {0}} (Err fault) mid after fm g (it ∷ []))
           (ap (λ (text : List ℕ). RoundLine text least_depth) named ∙ ap (RoundLine (document_text (now.names) document)) is) wrote))
 

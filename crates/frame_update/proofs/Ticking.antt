@@ -115,7 +115,7 @@ module _ (script : Script) (time : ℕ) (world : World) (clock : world.clock ≡
         run_same tick-is
         (cut_run {flow = λ (_ : Unit {0}). Next} fault (run_tasks script)
         (cut_run {flow = λ (_ : Unit {0}). Next} fault (update_rendering script)
-        (cut_saying {A = Unit {0}} fault (run_timers script) wrote)))
+        (cut_saying {flow = λ (_ : Unit {0}). Next} fault (TickLine time ∷ []) world (run_timers script) wrote)))
 
     module _ {said : Option (List ℕ)} {fs : ℕ} (wrote : Told {A = Unit {0}} (Ok tt) before said f fs (TickLine time ∷ [])) where
       timers-run : {A : Type 0} {state : World} (result : Result A RunFault) {after : Option (List ℕ)} {g : ℕ} → Runs goes_on state result said after fs g (run_timers script world)

@@ -54,7 +54,7 @@ fn end_turn(page: &mut Page, document: DocumentId, observer: ObserverId)
 }
 
 // Calls the callback of an observer at its turn, and then clears its active list, if the document is still Active. A limit
-// in the callback ends the turn in the same way.
+// that the callback meets ends the turn too, so the list is cleared then as well.
 fn call_observer<K: Sink, L: Ledger>(
     run: &mut Run<'_, K, L>,
     document: DocumentId,
@@ -71,12 +71,18 @@ fn call_observer<K: Sink, L: Ledger>(
     let observer = delivery.observer;
     let (_, handler) = run.page.callback_of(Label::Observer(observer));
     let entries = Entries::Resize(observer, delivery.entries);
-    let called = call_handler(run, document, handler, &entries);
-    if let Err(RunFault::Memory | RunFault::WriteFault) = called {
-        return called;
+    match call_handler(run, document, handler, &entries) {
+        Ok(()) => {
+            end_turn(run.page, document, observer);
+            Ok(())
+        }
+        Err(RunFault::Limit { kind, line, number }) => {
+            end_turn(run.page, document, observer);
+            Err(RunFault::Limit { kind, line, number })
+        }
+        Err(RunFault::Memory) => Err(RunFault::Memory),
+        Err(RunFault::WriteFault) => Err(RunFault::WriteFault),
     }
-    end_turn(run.page, document, observer);
-    called
 }
 
 // Broadcasts the active observations of a document, as long as it is Active, by index, since a callback may create observers

@@ -98,9 +98,10 @@ fn refuse<K: Sink>(
 /// that write its lines of rounds and of loop errors (law `all_loops_are_listed` of `loop_laws`, clause `items`).
 ///
 /// # Errors
-/// - `Limit` only if a limit is met, and then never `Ok`; every line before the limit's own was written.
+/// - `Limit` only if a limit is met, and then never `Ok`; every line before the limit's own was written, and the page's world
+///   is that of the definition at the limit.
 /// - `Memory`, and `WriteFault` only if the sink's fault count rose in this call; either may come before a limit. A prefix of
-///   the lines was written.
+///   the lines was written, and nothing is said of the page's world, which may be one inside of a step.
 pub fn tick<K: Sink, L: Ledger>(
     alloc: Global,
     page: &mut Page,

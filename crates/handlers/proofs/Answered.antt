@@ -81,7 +81,7 @@ pub untold_run : (fault : RunFault) (line : ℕ) (old : World) {new : World} {st
     → step ≡ Did (record { world = new; lines = lines }) → Told {A = Unit {0}} (Err fault) before after f g lines
     → Runs flow_of new (Err fault) before after f g (answered line old said_by step)
 untold_run fault line old {new} {lines = lines} is wrote =
-    run_same (sym (answered_did line old said_by is)) (unsaid_run {A = Unit {0}} fault {lines = lines} wrote)
+    run_same (sym (answered_did line old said_by is)) (unsaid_run fault {lines = lines} wrote)
 
 -- the target of an entry is that of the entry with whether it is intersecting
 pub target_same : (target : Option NodeId) (meets : Option Bool) → present_target (present_of target) ≡ present_target (present_with target meets)

@@ -30,9 +30,10 @@ use trace_runs::{Flow, RunFault, write_throw};
 /// still so (`IsReadyFor`).
 ///
 /// # Errors
-/// - `Limit` only if a limit is met, and then never `Ok`; all but the limit's own line was written.
+/// - `Limit` only if a limit is met, and then never `Ok`; all but the limit's own line was written, and the page's world is
+///   that of the definition at the limit.
 /// - `Memory`, and `WriteFault` only if the sink's fault count rose in this call; either may come before a limit. A prefix of
-///   the lines was written.
+///   the lines was written, and nothing is said of the page's world, which may be one inside of a step.
 #[cycle(blocks)]
 pub fn run_command<K: Sink, L: Ledger>(
     alloc: Global,

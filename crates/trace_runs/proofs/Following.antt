@@ -85,9 +85,9 @@ cut_run Memory {said = said} rest run = record { ended = tt; cut_off = (part_of_
 cut_run WriteFault {said = said} rest run = record { ended = tt; cut_off = failure_in_all said rest run.cut_off }
 
 -- lines whose writing was cut off, before others
-pub cut_saying : {A B S : Type 0} {flow : B → Flow} {state : S} (fault : RunFault) {before after : Option (List ℕ)} {f g : ℕ} {lines : List TraceLine} {now : S} (rest : S → Said S)
-    → Told {A = A} (Err fault) before after f g lines → Runs flow state (Err fault) before after f g (say lines now followed_by rest)
-cut_saying fault rest wrote = cut_run {A = Unit {0}} {flow = λ value. Next} fault rest (unsaid_run fault wrote)
+pub cut_saying : {A S : Type 0} {flow : A → Flow} {state : S} (fault : RunFault) {before after : Option (List ℕ)} {f g : ℕ} (lines : List TraceLine) (now : S) (rest : S → Said S)
+    → Told {A = Unit {0}} (Err fault) before after f g lines → Runs flow state (Err fault) before after f g (say lines now followed_by rest)
+cut_saying fault lines now rest wrote = cut_run {A = Unit {0}} {flow = λ value. Next} fault rest (unsaid_run fault {lines = lines} wrote)
 
 -- a step was cut off, of whose state a part is told
 pub lifted_cut : {A B S R : Type 0} {flow : A → Flow} {state : R} {flow' : B → Flow} (change : S → R) (fault : RunFault) {before after : Option (List ℕ)} {f g : ℕ} {said : Said S} (rest : S → Said S)
@@ -151,7 +151,7 @@ go_on_said lines state rest here written unfailed = go_on rest refl here (say_ru
 pub end_unsaid : {B S : Type 0} {flow : B → Flow} {state' : S} (fault : RunFault) {before mid after : Option (List ℕ)} {f fm g : ℕ} {whole : Said S} (lines : List TraceLine) (state : S)
     (rest : S → Said S) → Following before mid f fm whole (say lines state followed_by rest) → Told {A = Unit {0}} (Err fault) mid after fm g lines
     → Runs flow state' (Err fault) before after f g whole
-end_unsaid fault lines state rest here wrote = finish (Err fault) here (cut_saying {A = Unit {0}} fault {lines = lines} rest wrote)
+end_unsaid fault lines state rest here wrote = finish (Err fault) here (cut_saying fault lines state rest wrote)
 
 -- lines one after another
 pub say_more : {S : Type 0} (first : TraceLine) (lines : List TraceLine) (state : S) → say (first ∷ lines) state ≡ say (first ∷ []) state followed_by say lines

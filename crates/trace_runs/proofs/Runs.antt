@@ -50,15 +50,15 @@ pub say_run : {A S : Type 0} (result : Result A RunFault) {before after : Option
 say_run result {lines = lines} {state} wrote = lines_run result {said = say lines state} wrote (λ value. refl) refl
 
 -- lines whose writing was cut off, which leaves the state open
-pub unsaid_run : {A B S : Type 0} {flow : B → Going} {state : S} (fault : RunFault) {before after : Option (List ℕ)} {f g : ℕ} {lines : List TraceLine} {now : S}
-    → Told {A = A} (Err fault) before after f g lines → Runs flow state (Err fault) before after f g (say lines now)
+pub unsaid_run : {A S : Type 0} {flow : A → Going} {state : S} (fault : RunFault) {before after : Option (List ℕ)} {f g : ℕ} {lines : List TraceLine} {now : S}
+    → Told {A = Unit {0}} (Err fault) before after f g lines → Runs flow state (Err fault) before after f g (say lines now)
 unsaid_run (Limit kind line number) wrote = absurd wrote
 unsaid_run Memory wrote = record { ended = tt; cut_off = wrote }
 unsaid_run WriteFault wrote = record { ended = tt; cut_off = wrote }
 
-behind_cut : {S : Type 0} {state : S} (fault : RunFault) (before mid after : Option (List ℕ)) (f fm g : ℕ) (part : List TraceLine) (said : Said S)
+behind_cut : {S : Type 0} (fault : RunFault) (state : S) (before mid after : Option (List ℕ)) (f fm g : ℕ) (part : List TraceLine) (said : Said S)
     → Says before mid part → fm ≡ f → CutOff fault state mid after fm g said → CutOff fault state before after f g (behind part said)
-behind_cut (Limit kind line number) before mid after f fm g part said first unfailed cut = record {
+behind_cut (Limit kind line number) state before mid after f fm g part said first unfailed cut = record {
   lines = part ++ cut.lines;
   last = ap (λ (rest : List TraceLine). part ++ rest) cut.last ∙ sym (append_assoc part cut.lines _);
   written = says_both first cut.written;
@@ -66,9 +66,9 @@ behind_cut (Limit kind line number) before mid after f fm g part said first unfa
   flow_is = cut.flow_is;
   state_is = cut.state_is;
 }
-behind_cut Memory before mid after f fm g part said first unfailed cut =
+behind_cut Memory state before mid after f fm g part said first unfailed cut =
     (subst (λ (t : List ℕ). AppendsPart before after t) (bytes_both part (said.lines)) (part_behind before (bytes_of part) first.written cut.0), cut.1 ∙ unfailed)
-behind_cut WriteFault before mid after f fm g part said first unfailed cut =
+behind_cut WriteFault state before mid after f fm g part said first unfailed cut =
     subst (λ (t : List ℕ). FailsWithin before after f g t) (bytes_both part (said.lines)) (failure_behind before f (bytes_of part) first.written unfailed cut)
 
 -- a run behind lines that were written
@@ -83,7 +83,7 @@ behind_run (Ok value) {before} {mid} {after} part {said} first unfailed run = re
   };
   cut_off = tt;
 }
-behind_run (Err fault) part {said} first unfailed run = record { ended = tt; cut_off = behind_cut fault _ _ _ _ _ _ part said first unfailed run.cut_off }
+behind_run (Err fault) part {said} first unfailed run = record { ended = tt; cut_off = behind_cut fault _ _ _ _ _ _ _ part said first unfailed run.cut_off }
 
 -- a run that was cut off, of which the steps before it and behind it are another's
 pub cut_as : {A B S R : Type 0} {flow : A → Going} {state : S} {flow' : B → Going} {state' : R} (fault : RunFault) {before after : Option (List ℕ)} {f g : ℕ} {said : Said S} {other : Said R}

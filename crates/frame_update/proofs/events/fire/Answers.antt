@@ -14,7 +14,7 @@ returns-in_err-write_one g c =
     stopped c.from_residual.result c.in_err-write_one.field-0.0 c.from_residual.ensures refl refl
     (run_same (fire_is _ _ _ _ _)
     (cut_run {A = Unit {0}} {flow = goes_on} c.in_err-write_one.field-0.0 _
-    (cut_saying {A = Unit {0}} c.in_err-write_one.field-0.0 _ c.in_err-write_one.ensures.told)))
+    (cut_saying c.in_err-write_one.field-0.0 _ _ _ c.in_err-write_one.ensures.told)))
 
 pub returns-in_err-invoke : goal.returns-in_err-invoke
 returns-in_err-invoke g c =

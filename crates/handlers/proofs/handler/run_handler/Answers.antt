@@ -17,7 +17,7 @@ returns-in-Ok-clause-says g c =
 pub returns-in-Err-clause-says : goal.returns-in-Err-clause-says
 returns-in-Err-clause-says g c =
     run_same (call_active _ c.args.document.0 _ _ _ (sym c.if-not-is_active.ensures))
-    (cut_saying {A = Unit {0}} c.in-Err.fault _ c.in-Err.ensures)
+    (cut_saying c.in-Err.fault _ _ _ c.in-Err.ensures)
 
 pub returns-then-not-is_active-clause-ready : goal.returns-then-not-is_active-clause-ready
 returns-then-not-is_active-clause-ready g c =
