@@ -1,5 +1,5 @@
 use Rattle.std.proofs.Common.{refl, sym}
-use Rattle.std.specs.Prelude.{Ok, Err}
+use Rattle.std.specs.Prelude.{Ok}
 use Rattle.script_model.specs.Scripts.{handlers_in}
 use Rattle.trace_runs.proofs.Following.{cut_saying, then_run}
 use Rattle.trace_runs.proofs.Runs.{run_same, say_run, silent_run}
