@@ -29,8 +29,20 @@ use Rattle.trace_runs.proofs.Following.{Following, begin, rest_same, followed_ne
 use Rattle.trace_runs.proofs.Loops.{places, places_all, places_more, places_none, places_left}
 use Rattle.trace_runs.proofs.Runs.{run_same, lifted_run}
 use Rattle.frame_update.specs.Ready.{IsPrepared}
-use Rattle.frame_update.specs.Turns.{broadcast_at, least_with, AreEntriesIn}
+use Rattle.frame_update.specs.Turns.{least_with, AreEntriesIn}
 use Rattle.frame_update.proofs.Observers.{Begin, begin_same, begin_within, next_kept, called_stand, reported_stand, emptied_stand, handler_reported, active_in, first_place, place_within, turn_past}
+
+-- a broadcast in a world with the least depth of the entries so far
+abbrev pub broadcast_at : Option ℕ → World → Broadcast
+broadcast_at least world = record { world = world; shallowest = least }
+
+abbrev pub world_in : Broadcast → World
+world_in so_far = so_far.world
+
+-- the least depth that a broadcast at its end tells of
+pub shallowest_is : {least : Option ℕ} {world : World} {before after : Option (List ℕ)} {f g : ℕ} {said : Said Broadcast} → Runs goes_on (broadcast_at least world) (Ok least) before after f g said
+    → said.state.shallowest ≡ least
+shallowest_is run = ap (λ (so_far : Broadcast). so_far.shallowest) run.ended.state_is
 
 -- turns by number ------------------------------------------------------------------------------------------------------------
 
@@ -188,7 +200,7 @@ module _ {script : List Item} {document : ℕ} {before mid : Option (List ℕ)} 
   pub place_few : place ≤ 4096
   place_few = let most : place ≤ here.number = place_within document place here.number (world.resize_observers) here.next in omega (arith, most, here.within, few)
 
-  pub broadcast_left : is_active (world.tree) document ≡ false → Runs goes_on (λ (it : Option ℕ). broadcast_at it world) (Ok least) before mid f fm (broadcast (handlers_in script) document first)
+  pub broadcast_left : is_active (world.tree) document ≡ false → Runs goes_on (broadcast_at least world) (Ok least) before mid f fm (broadcast (handlers_in script) document first)
   broadcast_left fails =
       done refl (rest_same
       (places_left (made_count (handlers_in script) document) (goes (handlers_in script) document) (turn_at (handlers_in script) document) here.number (broadcast_at least world) fails) here.following)
@@ -197,9 +209,9 @@ module _ {script : List Item} {document : ℕ} {before mid : Option (List ℕ)} 
     unchanged : world ≡ new
     unchanged = sym (new_is ∙ ap (λ turn. once_reported turn world) none)
 
-    pub broadcast_none : is_active (world.tree) document ≡ true → Runs goes_on (λ (it : Option ℕ). broadcast_at it new) (Ok least) before mid f fm (broadcast (handlers_in script) document first)
+    pub broadcast_none : is_active (world.tree) document ≡ true → Runs goes_on (broadcast_at least new) (Ok least) before mid f fm (broadcast (handlers_in script) document first)
     broadcast_none going =
-        subst (λ (now : World). Runs goes_on (λ (it : Option ℕ). broadcast_at it now) (Ok least) before mid f fm (broadcast (handlers_in script) document first)) unchanged
+        subst (λ (now : World). Runs goes_on (broadcast_at least now) (Ok least) before mid f fm (broadcast (handlers_in script) document first)) unchanged
         (done refl (rest_same
         (all-passed (handlers_in script) document (broadcast_at least world) few going here.number
         (subst (λ (turn : Option Turn). Passed document (world.resize_observers) here.number turn) none (passed document (world.resize_observers) place here.number here.next)))
@@ -243,7 +255,7 @@ module _ {script : List Item} {document : ℕ} {before mid : Option (List ℕ)} 
     module _ {depth : ℕ} {after : Option (List ℕ)} {g : ℕ} {now : World} (result : Result (Unit {0}) RunFault)
         (entries_are : map seen_entry (entries_in (sight_of world) due) ≡ map (size_entry (sight_of world)) due)
         (least_is : fold shallower None (map seen_entry (delivery.entries)) ≡ Some depth)
-        (run : Runs goes_on (λ (value : Unit {0}). now) result mid after fm g called) where
+        (run : Runs goes_on now result mid after fm g called) where
       abbrev told : Option ℕ → List SizeEntry → World → Option ℕ → Said Broadcast
       told handler entries begun shallowest =
           lifted (λ now. record { world = emptied document observer now; shallowest = shallowest }) (call (handlers_in script) document handler (SizeEntries observer entries) begun)
@@ -268,19 +280,19 @@ module _ {script : List Item} {document : ℕ} {before mid : Option (List ℕ)} 
           ∙ ap (told (resize_observer_at (world.resize_observers) observer).handler entries begun)
           (sym (least-folded least depth entries (ap (fold shallower None) (sym entries-same) ∙ least_is)))
 
-      delivered-run : Runs goes_on (λ (value : Unit {0}). broadcast_at (Some (least_with least depth)) now) result mid after fm g
+      delivered-run : Runs goes_on (broadcast_at (Some (least_with least depth)) now) result mid after fm g
           (deliver (handlers_in script) document observer (broadcast_at least world) due)
       delivered-run = run_same delivered-same (lifted_run (broadcast_at (Some (least_with least depth))) result run)
 
     module _ {depth : ℕ} {after : Option (List ℕ)} {g : ℕ} {now : World} (going : is_active (world.tree) document ≡ true)
         (entries_are : map seen_entry (entries_in (sight_of world) due) ≡ map (size_entry (sight_of world)) due)
         (least_is : fold shallower None (map seen_entry (delivery.entries)) ≡ Some depth) where
-      pub broadcast_cut : {A : Type 0} {state : A → Broadcast} (fault : RunFault) → Runs goes_on (λ (value : Unit {0}). now) (Err fault) mid after fm g called
-          → Runs goes_on state (Err fault) before after f g (broadcast (handlers_in script) document first)
+      pub broadcast_cut : {A : Type 0} (fault : RunFault) → Runs {A = Unit {0}} goes_on now (Err fault) mid after fm g called
+          → Runs {A = A} goes_on (broadcast_at (Some (least_with least depth)) now) (Err fault) before after f g (broadcast (handlers_in script) document first)
       broadcast_cut fault run =
           end_cut fault (turns_from (handlers_in script) document (observer + 1)) (rest_same (taken going) here.following) (delivered-run (Err fault) entries_are least_is run)
 
-      pub broadcast_on : Runs goes_on (λ (value : Unit {0}). now) (Ok (tt {0})) mid after fm g called → IsPrepared script now
+      pub broadcast_on : Runs goes_on now (Ok (tt {0})) mid after fm g called → IsPrepared script now
           → IsBroadcasting script document before after f g first (delivery.place) (Some (least_with least depth)) now
       broadcast_on run ready =
           let still : Begin (world.resize_observers.made) (now.resize_observers.made) = still-begin now run.ended.state_is in

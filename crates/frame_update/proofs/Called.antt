@@ -11,7 +11,7 @@ use Rattle.trace_runs.specs.declared.faults.RunFault.{RunFault}
 use Rattle.trace_runs.specs.Flows.{goes_on}
 use Rattle.trace_runs.specs.Runs.{Runs}
 use Rattle.trace_runs.specs.Writes.{Told}
-use Rattle.trace_runs.proofs.Following.{cut_run, followed_next, then_run}
+use Rattle.trace_runs.proofs.Following.{cut_saying, followed_next, then_run}
 use Rattle.trace_runs.proofs.Runs.{run_same, say_run}
 
 module _ (script : Script) (document : ℕ) (handler : Option ℕ) where
@@ -39,12 +39,12 @@ module _ (script : Script) (document : ℕ) (handler : Option ℕ) where
 
   module _ {before after : Option (List ℕ)} {f g : ℕ} {line other : TraceLine} (world : World) (named : line ≡ other) where
     -- the line was written, and the callback was called
-    pub told_run : {A : Type 0} {state : A → World} (result : Result A RunFault) {mid : Option (List ℕ)} {fm : ℕ}
+    pub told_run : {A : Type 0} {state : World} (result : Result A RunFault) {mid : Option (List ℕ)} {fm : ℕ}
         → Told {A = Unit {0}} (Ok tt) before mid f fm (line ∷ []) → Runs goes_on state result mid after fm g (call script document handler NoEntries world)
         → Runs goes_on state result before after f g (told_call other world)
     told_run result wrote called = run_same (ap (λ it. told_call it world) named) (then_run result (call script document handler NoEntries) refl (say_run (Ok (tt {0})) wrote) called)
 
     -- the writing of the line was cut off
-    pub untold_run : {A : Type 0} {state : A → World} (fault : RunFault) → Told {A = Unit {0}} (Err fault) before after f g (line ∷ [])
-        → Runs goes_on state (Err fault) before after f g (told_call other world)
-    untold_run fault wrote = run_same (ap (λ it. told_call it world) named) (cut_run fault (call script document handler NoEntries) (say_run {A = Unit {0}} (Err fault) wrote))
+    pub untold_run : {A : Type 0} {state : World} (fault : RunFault) → Told {A = Unit {0}} (Err fault) before after f g (line ∷ [])
+        → Runs {A = A} goes_on state (Err fault) before after f g (told_call other world)
+    untold_run fault wrote = run_same (ap (λ it. told_call it world) named) (cut_saying fault (line ∷ []) world (call script document handler NoEntries) wrote)

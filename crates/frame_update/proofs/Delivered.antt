@@ -1,7 +1,7 @@
 -- What a delivery hands to a callback.
-use Rattle.std.proofs.Common.{◌≤◌, arith, refl}
+use Rattle.std.proofs.Common.{◌≡◌, ◌≤◌, arith, subst, sym}
 use Rattle.std.proofs.lemmas.Int.{ints}
-use Rattle.std.specs.Prelude.{ℕ, ◌+◌, ◌<◌, ℤ, pos, negsuc, ◌≤ℤ◌, ◌-ℤ◌, unsigned_abs, List, Option, length, map, IfSome, Err}
+use Rattle.std.specs.Prelude.{ℕ, ◌+◌, ◌<◌, ℤ, pos, negsuc, ◌≤ℤ◌, ◌-ℤ◌, unsigned_abs, List, Option, length, map, IfSome, Result, Err}
 use Rattle.std.specs.List.{AllByRecursion}
 use Rattle.px_units.specs.Rects.{InReach}
 use Rattle.text_io.specs.declared.kinds.Version.{Version}
@@ -19,9 +19,10 @@ use Rattle.depth_gather.specs.Entries.{seen_entry, IsLength, HasLengths}
 use Rattle.depth_gather.specs.declared.entries.ResizeEntry.{ResizeEntry}
 use Rattle.handlers.specs.Entries.{AreHanded}
 use Rattle.trace_runs.specs.declared.faults.RunFault.{RunFault}
+use Rattle.trace_runs.specs.declared.faults.RunFault.TheVariants.{Memory, WriteFault}
 use Rattle.trace_runs.specs.Flows.{goes_on}
 use Rattle.trace_runs.specs.Runs.{Runs}
-use Rattle.trace_runs.proofs.Runs.{cut_as}
+use Rattle.trace_runs.proofs.Runs.{lifted_run}
 use Rattle.frame_update.specs.Turns.{AreEntriesIn}
 
 most : (units : ℤ) → IsLength units → unsigned_abs units ≤ 281474976710656
@@ -75,7 +76,17 @@ are_handed world observer entries made targets lengths = record {
       (all-mapped HasLengths (λ (entry : SizeEntry). HasReach (resize_line (world.version) (world.names) observer entry)) seen_entry (line-reaches (world.version) (world.names) observer) entries lengths);
 }
 
--- a callback was cut off, and with it what was to be done behind it
-pub delivery_cut : {A B : Type 0} {state : A → World} {state' : B → World} (change : World → World) (fault : RunFault) {before after : Option (List ℕ)} {f g : ℕ} {said : Said World}
-    → Runs goes_on state (Err fault) before after f g said → Runs goes_on state' (Err fault) before after f g (lifted change said)
-delivery_cut change fault {said = said} run = cut_as fault {other = lifted change said} refl (λ limited. limited) run
+-- a callback and what is done behind it, at its end and at a limit
+pub turn_run : {A : Type 0} {change : World → World} (result : Result A RunFault) {now new : World} {before after : Option (List ℕ)} {f g : ℕ} {said : Said World}
+    → new ≡ change now → Runs goes_on now result before after f g said → Runs goes_on new result before after f g (lifted change said)
+turn_run {change = change} result {before = before} {after} {f} {g} {said} is run =
+    subst (λ (world : World). Runs goes_on world result before after f g (lifted change said)) (sym is) (lifted_run change result run)
+
+-- a callback that was broken off, with what was to be done behind it
+pub memory_lifted : {A : Type 0} {change : World → World} {now new : World} {before after : Option (List ℕ)} {f g : ℕ} {said : Said World}
+    → Runs {A = A} goes_on now (Err Memory) before after f g said → Runs {A = A} goes_on new (Err Memory) before after f g (lifted change said)
+memory_lifted run = record { ended = tt; cut_off = run.cut_off }
+
+pub failure_lifted : {A : Type 0} {change : World → World} {now new : World} {before after : Option (List ℕ)} {f g : ℕ} {said : Said World}
+    → Runs {A = A} goes_on now (Err WriteFault) before after f g said → Runs {A = A} goes_on new (Err WriteFault) before after f g (lifted change said)
+failure_lifted run = record { ended = tt; cut_off = run.cut_off }

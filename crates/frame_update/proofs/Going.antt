@@ -12,19 +12,19 @@ use Rattle.trace_runs.specs.declared.faults.RunFault.{RunFault}
 use Rattle.trace_runs.specs.Flows.{goes_on}
 use Rattle.trace_runs.specs.Runs.{Runs}
 use Rattle.trace_runs.proofs.Following.{Following, begin, done, end_cut, go_on, rest_same}
-use Rattle.frame_update.specs.Goes.{handlers_of, loans_of, world_of, GoesTo, IsUnderWay}
+use Rattle.frame_update.specs.Goes.{handlers_of, loans_of, world_of, Goes, IsUnderWay}
 use Rattle.frame_update.specs.declared.run.Run.{Run}
 
-module _ {K L A S : Type 0} {taken : K → Option (List ℕ)} {faults : K → ℕ} {state : A → World → S} {old new : Run K L} {said : Said S} where
+module _ {K L A : Type 0} {taken : K → Option (List ℕ)} {faults : K → ℕ} {old new : Run K L} {said : Said World} where
   -- the fault is that of the step
   pub stopped : (result : Result A RunFault) (fault : RunFault) → IsErr result × IsErrAnd result (λ (it : RunFault). it ≡ fault) → new.script ≡ old.script
       → loans_of new ≡ loans_of old
-      → Runs goes_on (λ (value : A). state value (world_of new)) (Err fault) (taken old.sink.now) (taken new.sink.now) (faults old.sink.now) (faults new.sink.now) said
-      → GoesTo state taken faults old new result said
+      → Runs goes_on (world_of new) (Err fault) (taken old.sink.now) (taken new.sink.now) (faults old.sink.now) (faults new.sink.now) said
+      → Goes taken faults old new result said
   stopped (Ok value) fault is script lent run = absurd (cc)
   stopped (Err it) fault is script lent run = record {
     says =
-        subst (λ (it : RunFault). Runs goes_on (λ (value : A). state value (world_of new)) (Err it) (taken old.sink.now) (taken new.sink.now) (faults old.sink.now) (faults new.sink.now) said)
+        subst (λ (it : RunFault). Runs goes_on (world_of new) (Err it) (taken old.sink.now) (taken new.sink.now) (faults old.sink.now) (faults new.sink.now) said)
         (sym is.1) run;
     ready = tt;
     script = script;
@@ -33,24 +33,30 @@ module _ {K L A S : Type 0} {taken : K → Option (List ℕ)} {faults : K → �
 
   -- it was run to its end
   pub arrived : {value : A} → new.script ≡ old.script → loans_of new ≡ loans_of old → IsUnderWay new
-      → Runs goes_on (λ (value : A). state value (world_of new)) (Ok value) (taken old.sink.now) (taken new.sink.now) (faults old.sink.now) (faults new.sink.now) said
-      → GoesTo state taken faults old new (Ok value) said
+      → Runs goes_on (world_of new) (Ok value) (taken old.sink.now) (taken new.sink.now) (faults old.sink.now) (faults new.sink.now) said
+      → Goes taken faults old new (Ok value) said
   arrived script lent ready run = record { says = run; ready = ready; script = script; lent = lent }
 
+  -- it was cut off with this fault
+  pub cut_short : {fault : RunFault} → new.script ≡ old.script → loans_of new ≡ loans_of old
+      → Runs goes_on (world_of new) (Err fault) (taken old.sink.now) (taken new.sink.now) (faults old.sink.now) (faults new.sink.now) said
+      → Goes taken faults old new (Err fault) said
+  cut_short script lent run = record { says = run; ready = tt; script = script; lent = lent }
+
   -- it was run by the last step
-  pub passed_on : {mid : Run K L} {last : Said S} {result : Result A RunFault} → GoesTo state taken faults mid new result last → mid.script ≡ old.script → loans_of mid ≡ loans_of old
-      → Runs goes_on (λ (value : A). state value (world_of new)) result (taken old.sink.now) (taken new.sink.now) (faults old.sink.now) (faults new.sink.now) said
-      → GoesTo state taken faults old new result said
+  pub passed_on : {mid : Run K L} {last : Said World} {result : Result A RunFault} → Goes taken faults mid new result last → mid.script ≡ old.script → loans_of mid ≡ loans_of old
+      → Runs goes_on (world_of new) result (taken old.sink.now) (taken new.sink.now) (faults old.sink.now) (faults new.sink.now) said
+      → Goes taken faults old new result said
   passed_on went script lent run = record { says = run; ready = went.ready; script = went.script ∙ script; lent = went.lent ∙ lent }
 
 -- what was said over the script that a run has now was said over the one that it had, which is the same
-pub over_first : {A S : Type 0} {state : A → S} {result : Result A RunFault} {before after : Option (List ℕ)} {f g : ℕ} {now first : Bor syntax.Script} (whole : Script → Said S) → now ≡ first
+pub over_first : {A S : Type 0} {state : S} {result : Result A RunFault} {before after : Option (List ℕ)} {f g : ℕ} {now first : Bor syntax.Script} (whole : Script → Said S) → now ≡ first
     → Runs goes_on state result before after f g (whole (handlers_in now.now.items)) → Runs goes_on state result before after f g (whole (handlers_in first.now.items))
 over_first {state = state} {result} {before} {after} {f} {g} whole same run =
     subst (λ (it : Bor syntax.Script). Runs goes_on state result before after f g (whole (handlers_in it.now.items))) same run
 
 -- a run on its way since the first: what it has said of the whole, and what is left to say
-pub record IsOnItsWay {K L S : Type 0} (taken : K → Option (List ℕ)) (faults : K → ℕ) (first now : Run K L) (whole rest : Script → Said S) : Type 0 where
+pub record IsOnItsWay {K L : Type 0} (taken : K → Option (List ℕ)) (faults : K → ℕ) (first now : Run K L) (whole rest : Script → Said World) : Type 0 where
   pub following : Following (taken first.sink.now) (taken now.sink.now) (faults first.sink.now) (faults now.sink.now) (whole (handlers_of now)) (rest (handlers_of now))
   pub ready : IsUnderWay now
   pub script : now.script ≡ first.script
@@ -64,7 +70,7 @@ abbrev loans_in : {K : Type 0} → Bor syntax.Script × ℕ × MutBor K → ℕ 
 loans_in it = (it.1, it.2.ghost_name)
 
 -- nothing was said yet
-pub run_begins : {K L S : Type 0} {taken : K → Option (List ℕ)} {faults : K → ℕ} {first now : Run K L} {whole rest : Script → Said S} → kept_of now ≡ kept_of first → IsUnderWay now
+pub run_begins : {K L : Type 0} {taken : K → Option (List ℕ)} {faults : K → ℕ} {first now : Run K L} {whole rest : Script → Said World} → kept_of now ≡ kept_of first → IsUnderWay now
     → whole (handlers_of now) ≡ rest (handlers_of now) → IsOnItsWay taken faults first now whole rest
 run_begins {K = K} {taken = taken} {faults} {first} {now} {whole} kept ready all = record {
   following =
@@ -77,7 +83,7 @@ run_begins {K = K} {taken = taken} {faults} {first} {now} {whole} kept ready all
   lent = ap loans_in kept;
 }
 
-module _ {K L S : Type 0} {taken : K → Option (List ℕ)} {faults : K → ℕ} {first now : Run K L} {whole rest : Script → Said S} (here : IsOnItsWay taken faults first now whole rest) where
+module _ {K L : Type 0} {taken : K → Option (List ℕ)} {faults : K → ℕ} {first now : Run K L} {whole rest : Script → Said World} (here : IsOnItsWay taken faults first now whole rest) where
   module _ (mid : Run K L) (kept : kept_of mid ≡ kept_of now) where
     following-kept : Following (taken first.sink.now) (taken mid.sink.now) (faults first.sink.now) (faults mid.sink.now) (whole (handlers_of mid)) (rest (handlers_of mid))
     following-kept =
@@ -92,20 +98,20 @@ module _ {K L S : Type 0} {taken : K → Option (List ℕ)} {faults : K → ℕ}
     lent-kept = ap loans_in kept ∙ here.lent
 
   -- nothing is left to say
-  pub run_is_done : {A : Type 0} {state : A → World → S} {value : A} {mid : Run K L} → kept_of mid ≡ kept_of now → IsUnderWay mid
-      → rest (handlers_of mid) ≡ silent (state value (world_of mid)) → GoesTo state taken faults first mid (Ok value) (whole (handlers_of first))
+  pub run_is_done : {A : Type 0} {value : A} {mid : Run K L} → kept_of mid ≡ kept_of now → IsUnderWay mid
+      → rest (handlers_of mid) ≡ silent (world_of mid) → Goes taken faults first mid (Ok value) (whole (handlers_of first))
   run_is_done {mid = mid} kept ready none =
       arrived (script-kept mid kept) (lent-kept mid kept) ready (over_first whole (script-kept mid kept) (done refl (rest_same none (following-kept mid kept))))
 
   -- the next step was run
-  pub run_goes_on : {A : Type 0} {state : A → World → S} {mid new : Run K L} {value : A} {said : Said S} → GoesTo state taken faults mid new (Ok value) said → kept_of mid ≡ kept_of now
-      → (next : Script → S → Said S) → rest (handlers_of mid) ≡ (said followed_by next (handlers_of mid))
-      → IsOnItsWay taken faults first new whole (λ (script : Script). next script (state value (world_of new)))
-  run_goes_on {state = state} {mid} {new} {value} went kept next more = record {
+  pub run_goes_on : {A : Type 0} {mid new : Run K L} {value : A} {said : Said World} → Goes taken faults mid new (Ok value) said → kept_of mid ≡ kept_of now
+      → (next : Script → World → Said World) → rest (handlers_of mid) ≡ (said followed_by next (handlers_of mid))
+      → IsOnItsWay taken faults first new whole (λ (script : Script). next script (world_of new))
+  run_goes_on {mid = mid} {new} went kept next more = record {
     following =
         subst
         (λ (it : Bor syntax.Script). Following (taken first.sink.now) (taken new.sink.now) (faults first.sink.now) (faults new.sink.now) (whole (handlers_in it.now.items))
-        (next (handlers_in it.now.items) (state value (world_of new))))
+        (next (handlers_in it.now.items) (world_of new)))
         (sym went.script) (go_on (next (handlers_of mid)) refl (rest_same more (following-kept mid kept)) went.says);
     ready = went.ready;
     script = went.script ∙ script-kept mid kept;
@@ -113,9 +119,9 @@ module _ {K L S : Type 0} {taken : K → Option (List ℕ)} {faults : K → ℕ}
   }
 
   -- the next step was cut off
-  pub run_is_cut : {A B : Type 0} {state : A → World → S} {state' : B → World → S} {mid new : Run K L} {fault : RunFault} {said : Said S} → GoesTo state taken faults mid new (Err fault) said
-      → kept_of mid ≡ kept_of now → (next : Script → S → Said S) → rest (handlers_of mid) ≡ (said followed_by next (handlers_of mid)) → (result : Result B RunFault)
-      → IsErr result × IsErrAnd result (λ (it : RunFault). it ≡ fault) → GoesTo state' taken faults first new result (whole (handlers_of first))
+  pub run_is_cut : {A B : Type 0} {mid new : Run K L} {fault : RunFault} {said : Said World} → Goes {A = A} taken faults mid new (Err fault) said
+      → kept_of mid ≡ kept_of now → (next : Script → World → Said World) → rest (handlers_of mid) ≡ (said followed_by next (handlers_of mid)) → (result : Result B RunFault)
+      → IsErr result × IsErrAnd result (λ (it : RunFault). it ≡ fault) → Goes taken faults first new result (whole (handlers_of first))
   run_is_cut {mid = mid} {fault = fault} went kept next more result is =
       stopped result fault is (went.script ∙ script-kept mid kept) (went.lent ∙ lent-kept mid kept)
       (over_first whole (script-kept mid kept) (end_cut fault (next (handlers_of mid)) (rest_same more (following-kept mid kept)) went.says))

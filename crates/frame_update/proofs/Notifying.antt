@@ -120,7 +120,7 @@ module _ (script : Script) (observer : ℕ) where
         ∙ ap (λ queue. take_queue script queue observer world) are
 
     -- the callback of one that has entries is called
-    pub turn_run : {A : Type 0} {state : A → World} {before after : Option (List ℕ)} {f g : ℕ} (result : Result A RunFault)
+    pub turn_run : {A : Type 0} {state : World} {before after : Option (List ℕ)} {f g : ℕ} (result : Result A RunFault)
         → Runs goes_on state result before after f g (call script document handler (CutEntries observer entries) now)
         → Runs goes_on state result before after f g (notify_watcher script observer world)
     turn_run result run = run_same turn_is run

@@ -35,7 +35,7 @@ module _ (script : Script) (before : World) where
 
     -- fewer tasks are left behind it
     pub fewer_tasks : {mid now : Option (List ℕ)} {fm g : ℕ} {A : Type 0} {new : World} {value : A} → tasks_left ((run_first script (before.tasks) before).state) < tasks_left before
-        → Runs goes_on (λ (_ : A). new) (Ok value) mid now fm g (run_task script task after) → tasks_left new < tasks_left before
+        → Runs goes_on new (Ok value) mid now fm g (run_task script task after) → tasks_left new < tasks_left before
     fewer_tasks fewer run = subst (λ (world : World). tasks_left world < tasks_left before) (ap (λ (said : Said World). said.state) first_is ∙ run.ended.state_is) fewer
 
   -- no task waits

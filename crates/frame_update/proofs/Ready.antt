@@ -57,7 +57,7 @@ ready_called script document handler handed before after are is ready =
     })
 
 pub called_ready : {A : Type 0} {before after : Option (List ℕ)} {f g : ℕ} (script : List Item) (document : ℕ) (handler : Option ℕ) (handed : Entries) (old new : World) (result : Result A RunFault)
-    → AllByRecursion (IsPresentIn old) (presents handed) → Runs goes_on (λ (_ : A). new) result before after f g (call (handlers_in script) document handler handed old)
+    → AllByRecursion (IsPresentIn old) (presents handed) → Runs goes_on new result before after f g (call (handlers_in script) document handler handed old)
     → IsPrepared script old → IfOk result (λ _. IsPrepared script new)
 called_ready script document handler handed old new (Ok value) are run ready = ready_called script document handler handed old new are run.ended.state_is ready
 called_ready script document handler handed old new (Err fault) are run ready = tt

@@ -7,7 +7,7 @@ use Rattle.page_model.specs.World.{World}
 use Rattle.page_model.specs.Documents.{is_active}
 use Rattle.page_model.specs.Gathering.{has_active}
 use Rattle.page_model.specs.Names.{document_text}
-use Rattle.page_model.specs.Runs.{Said, only_if}
+use Rattle.page_model.specs.Runs.{Said, lifted, only_if}
 use Rattle.page_model.specs.Callbacks.{Script}
 use Rattle.page_model.specs.Loop.{Broadcast, broadcast, gather, round, round_ended}
 use Rattle.page_laws.proofs.Changes.{gather-next}
@@ -16,10 +16,10 @@ use Rattle.trace_runs.specs.declared.faults.RunFault.{RunFault}
 use Rattle.trace_runs.specs.Flows.{goes_on}
 use Rattle.trace_runs.specs.Runs.{Runs}
 use Rattle.trace_runs.specs.Writes.{Told}
-use Rattle.trace_runs.proofs.Following.{cut_run, then_run}
-use Rattle.trace_runs.proofs.Runs.{run_same, silent_run, say_run, cut_as, lifted_run, only_if_true, only_if_false}
+use Rattle.trace_runs.proofs.Following.{lifted_cut, then_run}
+use Rattle.trace_runs.proofs.Runs.{run_same, silent_run, say_run, unsaid_run, lifted_run, only_if_true, only_if_false}
 use Rattle.frame_update.specs.Ready.{IsPrepared}
-use Rattle.frame_update.specs.Turns.{broadcast_at}
+use Rattle.frame_update.proofs.Broadcasts.{broadcast_at, world_in}
 use Rattle.frame_update.proofs.Ready.{ready_next}
 
 gather-tree : (document depth : ℕ) (world : World) → (gather document depth world).tree ≡ world.tree
@@ -43,14 +43,27 @@ module _ (script : Script) (document : ℕ) (world : World) where
   ends so_far = only_if (round_ended document) so_far (is_active (so_far.world.tree) document)
 
   -- the broadcast was cut off
-  pub round_cut : {A B : Type 0} {broadcasting : B → Broadcast} {state : A → World} (fault : RunFault) {before after : Option (List ℕ)} {f g : ℕ}
-      → Runs goes_on broadcasting (Err fault) before after f g (broadcast script document world) → Runs goes_on state (Err fault) before after f g (round script document world)
-  round_cut {state = state} fault run =
-      lifted_run (λ (so_far : Broadcast). so_far.world) (Err fault) (cut_run {state' = λ value. broadcast_at None (state value)} fault ends run)
+  pub round_cut : {A B : Type 0} {state : World} (fault : RunFault) {before after : Option (List ℕ)} {f g : ℕ}
+      → Runs {A = A} goes_on state (Err fault) before after f g (lifted world_in (broadcast script document world))
+      → Runs {A = B} goes_on state (Err fault) before after f g (round script document world)
+  round_cut fault run = lifted_cut world_in fault ends run
 
   -- the broadcast was run
   module _ {before mid : Option (List ℕ)} {f fm : ℕ} (least : Option ℕ) (now : World)
-      (run : Runs goes_on (λ (it : Option ℕ). broadcast_at it now) (Ok least) before mid f fm (broadcast script document world)) where
+      (ran : Runs goes_on now (Ok least) before mid f fm (lifted world_in (broadcast script document world)))
+      (shallowest : (broadcast script document world).state.shallowest ≡ least) where
+    run : Runs goes_on (broadcast_at least now) (Ok least) before mid f fm (broadcast script document world)
+    run = record {
+      ended = record {
+        written = ran.ended.written;
+        unfailed = ran.ended.unfailed;
+        flow_is = ran.ended.flow_is;
+        state_is =
+            ap (broadcast_at ((broadcast script document world).state.shallowest)) ran.ended.state_is ∙ ap (λ (depth : Option ℕ). broadcast_at depth now) shallowest;
+      };
+      cut_off = tt;
+    }
+
     abbrev depth : ℕ
     depth = unwrap_or least 0
 
@@ -58,44 +71,44 @@ module _ (script : Script) (document : ℕ) (world : World) where
     line = RoundLine (document_text (now.names) document) depth
 
     -- the document isn't Active any more
-    pub round_left : is_active (now.tree) document ≡ false → Runs goes_on (λ (it : Option ℕ). now) (Ok None) before mid f fm (round script document world)
+    pub round_left : is_active (now.tree) document ≡ false → Runs {A = Option ℕ} goes_on now (Ok None) before mid f fm (round script document world)
     round_left fails =
-        lifted_run (λ (so_far : Broadcast). so_far.world) (Ok None)
-        (then_run {state' = λ (it : Option ℕ). broadcast_at least now} (Ok None) ends refl run
+        lifted_run world_in (Ok None)
+        (then_run {state' = broadcast_at least now} (Ok None) ends refl run
         (run_same (sym (only_if_false (round_ended document) (broadcast_at least now) fails)) (silent_run refl)))
 
     module _ (holds : is_active (now.tree) document ≡ true) {after : Option (List ℕ)} {g : ℕ} where
-      ended-run : {A : Type 0} (result : Result A RunFault) → Told result mid after fm g (line ∷ [])
-          → Runs goes_on (λ (value : A). gather document depth now) result before after f g (round script document world)
-      ended-run {A = A} result wrote =
-          lifted_run (λ (so_far : Broadcast). so_far.world) result
-          (then_run {state' = λ (value : A). broadcast_at least (gather document depth now)} result ends refl run
-          (run_same (sym (only_if_true (round_ended document) (broadcast_at least now) holds))
-          (say_run result {lines = line ∷ []} {state = broadcast_at least (gather document depth now)} wrote)))
+      ended-run : {A : Type 0} {state : World} (result : Result A RunFault) → Runs goes_on (broadcast_at least state) result mid after fm g (round_ended document (broadcast_at least now))
+          → Runs goes_on state result before after f g (round script document world)
+      ended-run {state = state} result rest =
+          lifted_run world_in result
+          (then_run {state' = broadcast_at least state} result ends refl run
+          (run_same (sym (only_if_true (round_ended document) (broadcast_at least now) holds)) rest))
 
       -- the writing of the line was cut off
-      pub round_unsaid : {A : Type 0} {state : A → World} (name : List ℕ) (least_depth : ℕ) (fault : RunFault) → name ≡ document_text (now.names) document → least_depth ≡ depth
-          → Told {A = Unit {0}} (Err fault) mid after fm g (RoundLine name least_depth ∷ []) → Runs goes_on state (Err fault) before after f g (round script document world)
+      pub round_unsaid : {A : Type 0} {state : World} (name : List ℕ) (least_depth : ℕ) (fault : RunFault) → name ≡ document_text (now.names) document → least_depth ≡ depth
+          → Told {A = Unit {0}} (Err fault) mid after fm g (RoundLine name least_depth ∷ []) → Runs {A = A} goes_on state (Err fault) before after f g (round script document world)
       round_unsaid name least_depth fault named is wrote =
-          cut_as fault {other = round script document world} refl (λ limited. limited)
-          (ended-run {A = Unit {0}} (Err fault)
+          ended-run (Err fault)
+          (unsaid_run fault {lines = line ∷ []}
           (subst (λ (it : TraceLine). Told {A = Unit {0}} (Err fault) mid after fm g (it ∷ []))
           (ap (λ (text : List ℕ). RoundLine text least_depth) named ∙ ap (RoundLine (document_text (now.names) document)) is) wrote))
 
       -- the line was written, and observations were gathered
       pub round_said : {A : Type 0} (name : List ℕ) (least_depth : ℕ) (new : World) (value : A) → name ≡ document_text (now.names) document → least_depth ≡ depth
           → new ≡ gather document least_depth now → Told {A = Unit {0}} (Ok (tt {0})) mid after fm g (RoundLine name least_depth ∷ [])
-          → Runs goes_on (λ (it : A). new) (Ok value) before after f g (round script document world)
+          → Runs {A = A} goes_on new (Ok value) before after f g (round script document world)
       round_said {A = A} name least_depth new value named is gathered wrote =
-          subst (λ (end : World). Runs goes_on (λ (it : A). end) (Ok value) before after f g (round script document world))
+          subst (λ (end : World). Runs {A = A} goes_on end (Ok value) before after f g (round script document world))
           (sym (gathered ∙ ap (λ (at : ℕ). gather document at now) is))
-          (ended-run {A = A} (Ok value)
+          (ended-run (Ok value)
+          (say_run (Ok value) {lines = line ∷ []} {state = broadcast_at least (gather document depth now)}
           (subst (λ (it : TraceLine). Told {A = Unit {0}} (Ok (tt {0})) mid after fm g (it ∷ []))
-          (ap (λ (text : List ℕ). RoundLine text least_depth) named ∙ ap (RoundLine (document_text (now.names) document)) is) wrote))
+          (ap (λ (text : List ℕ). RoundLine text least_depth) named ∙ ap (RoundLine (document_text (now.names) document)) is) wrote)))
 
     depth-is : depth ≡ round_depth script document world
     unfolding round_depth
-    depth-is = ap (λ (so_far : Broadcast). unwrap_or (so_far.shallowest) 0) (sym run.ended.state_is)
+    depth-is = ap (λ (shallowest : Option ℕ). unwrap_or shallowest 0) (sym shallowest)
 
     -- the depth of the round, where a further one follows
     pub round_next : is_active (now.tree) document ≡ true → (least_depth : ℕ) (new : World) (found : Option ℕ) → least_depth ≡ depth → new ≡ gather document least_depth now

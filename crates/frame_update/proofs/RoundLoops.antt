@@ -112,7 +112,7 @@ module _ (laws : AreLaws) {script : List Item} {document : ℕ} {before mid : Op
       ∙ followed_next (silent world) (report_skipped (handlers_in script) document) refl refl
 
   -- no round is left
-  pub loop_done : {A : Type 0} {state : A → World} (result : Result A RunFault) {after : Option (List ℕ)} {g : ℕ} → found ≡ None
+  pub loop_done : {A : Type 0} {state : World} (result : Result A RunFault) {after : Option (List ℕ)} {g : ℕ} → found ≡ None
       → Runs goes_on state result mid after fm g (report_skipped (handlers_in script) document world)
       → Runs goes_on state result before after f g (resize_loop (handlers_in script) document first)
   loop_done result none run = finish result (rest_same (ends-here none) here.following) run
@@ -128,12 +128,12 @@ module _ (laws : AreLaws) {script : List Item} {document : ℕ} {before mid : Op
         ∙ followed-twice (round (handlers_in script) document world) (rounds_up_to most_steps (handlers_in script) document) (report_skipped (handlers_in script) document)
 
     -- a round was cut off
-    pub loop_cut : {A B : Type 0} {state : A → World} {state' : B → World} (fault : RunFault) {after : Option (List ℕ)} {g : ℕ}
-        → Runs goes_on state (Err fault) mid after fm g (round (handlers_in script) document world)
-        → Runs goes_on state' (Err fault) before after f g (resize_loop (handlers_in script) document first)
+    pub loop_cut : {A B : Type 0} {state : World} (fault : RunFault) {after : Option (List ℕ)} {g : ℕ}
+        → Runs {A = A} goes_on state (Err fault) mid after fm g (round (handlers_in script) document world)
+        → Runs {A = B} goes_on state (Err fault) before after f g (resize_loop (handlers_in script) document first)
     loop_cut fault run = end_cut fault (rest_of (handlers_in script) document) (rest_same one-more here.following) run
 
-    module _ {after : Option (List ℕ)} {g : ℕ} {new : World} {next : Option ℕ} (run : Runs goes_on (λ (it : Option ℕ). new) (Ok next) mid after fm g (round (handlers_in script) document world))
+    module _ {after : Option (List ℕ)} {g : ℕ} {new : World} {next : Option ℕ} (run : Runs goes_on new (Ok next) mid after fm g (round (handlers_in script) document world))
         (was : next ≡ cond (has_round document new) (Some (round_depth (handlers_in script) document world)) None) where
       abbrev least : ℕ
       least = round_depth (handlers_in script) document world

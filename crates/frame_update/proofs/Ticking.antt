@@ -23,7 +23,7 @@ use Rattle.trace_runs.specs.Flows.{goes_on}
 use Rattle.trace_runs.specs.Runs.{Runs}
 use Rattle.trace_runs.specs.Writes.{Told}
 use Rattle.trace_runs.proofs.Answered.{answered_did, answered_threw, met_run, once_begun_is}
-use Rattle.trace_runs.proofs.Following.{cut_run, then_run}
+use Rattle.trace_runs.proofs.Following.{cut_run, cut_saying, then_run}
 use Rattle.trace_runs.proofs.Runs.{caught_cut, lines_run, run_same, say_run}
 use Rattle.frame_update.specs.Answers.{Refused, IsLeft}
 use Rattle.frame_update.specs.Ready.{IsReady}
@@ -48,7 +48,7 @@ ready_told script world (Err fault) ready = tt
 -- what is said ---------------------------------------------------------------------------------------------------------------------
 
 -- nothing is thrown out of a run that goes on
-pub caught_run : {A S : Type 0} {state : A → S} (result : Result A RunFault) {before after : Option (List ℕ)} {f g : ℕ} {said : Said S}
+pub caught_run : {A S : Type 0} {state : S} (result : Result A RunFault) {before after : Option (List ℕ)} {f g : ℕ} {said : Said S}
     → Runs goes_on state result before after f g said → Runs goes_on state result before after f g (caught said)
 unfolding caught caught_flow
 caught_run (Ok value) run = record {
@@ -62,7 +62,7 @@ caught-throw : (line : ℕ) (kind : ThrowKind) (old : World) (next : World → S
 unfolding caught caught_flow
 caught-throw line kind old next step is = sym (ap caught (answered_threw line old next is))
 
-left-run : {A : Type 0} {state : A → World} (fault : RunFault) (result : Result A RunFault) (before after : Option (List ℕ)) (f g : ℕ) (said : Said World)
+left-run : {A : Type 0} {state : World} (fault : RunFault) (result : Result A RunFault) (before after : Option (List ℕ)) (f g : ℕ) (said : Said World)
     → IsLeft fault result before after f g → Runs goes_on state (Err fault) before before f f said → Runs goes_on state result before after f g said
 left-run {state = state} fault result before after f g said left run =
     subst (λ (it : Result _ RunFault). Runs goes_on state it before after f g said) (sym left.0)
@@ -72,15 +72,15 @@ left-run {state = state} fault result before after f g said left run =
 -- a call that was refused
 pub refused_run : {A : Type 0} {version : Version} (fault : PageFault) (line : ℕ) (result : Result A RunFault) (before after : Option (List ℕ)) (f g : ℕ) (old new : World) (step : Step World)
     (next : World → Said World) → version ≡ new.version → Moved (Err fault) old new step → Refused version fault line result before after f g
-    → Runs goes_on (λ (_ : A). new) result before after f g (caught (answered line old next step))
+    → Runs goes_on new result before after f g (caught (answered line old next step))
 refused_run (Throw kind) line result before after f g old new step next same moved refused =
     run_same (caught-throw line kind old next step moved.0)
-    (lines_run result {said = say (ThrowLine line kind ∷ []) old} refused (λ value. refl) (λ value. sym moved.1))
+    (lines_run result {said = say (ThrowLine line kind ∷ []) old} refused (λ value. refl) (sym moved.1))
 refused_run (Limit kind) line result before after f g old new step next same moved refused =
     let most : ℕ = limit_number (old.version) kind in
     left-run (faults.Limit kind line most) result before after f g _
     (subst (λ (it : Version). IsLeft (faults.Limit kind line (limit_number it kind)) result before after f g) (same ∙ ap (λ (world : World). world.version) moved.1) refused)
-    (caught_cut {flow = λ (_ : Unit {0}). Next} {state = λ (_ : Unit {0}). old} (faults.Limit kind line most) (met_run line old next moved.0))
+    (caught_cut {flow = λ (_ : Unit {0}). Next} (faults.Limit kind line most) (met_run line old next moved.0 moved.1))
 refused_run Memory line result before after f g old new step next same moved refused = absurd moved
 
 module _ (script : Script) (line time : ℕ) (old : World) where
@@ -109,37 +109,38 @@ module _ (script : Script) (time : ℕ) (world : World) (clock : world.clock ≡
 
   module _ {before : Option (List ℕ)} {f : ℕ} where
     -- the writing of its line was cut off
-    pub tick_unsaid : {B : Type 0} {state : B → World} (fault : RunFault) {after : Option (List ℕ)} {g : ℕ} → Told {A = Unit {0}} (Err fault) before after f g (TickLine time ∷ [])
-        → Runs goes_on state (Err fault) before after f g (tick script world)
+    pub tick_unsaid : {B : Type 0} {state : World} (fault : RunFault) {after : Option (List ℕ)} {g : ℕ} → Told {A = Unit {0}} (Err fault) before after f g (TickLine time ∷ [])
+        → Runs {A = B} goes_on state (Err fault) before after f g (tick script world)
     tick_unsaid fault wrote =
         run_same tick-is
-        (cut_run {flow = λ (_ : Unit {0}). Next} {state = λ (_ : Unit {0}). world} fault (run_tasks script)
-        (cut_run {flow = λ (_ : Unit {0}). Next} {state = λ (_ : Unit {0}). world} fault (update_rendering script) (cut_run fault (run_timers script) (say_run {A = Unit {0}} (Err fault) wrote))))
+        (cut_run {flow = λ (_ : Unit {0}). Next} fault (run_tasks script)
+        (cut_run {flow = λ (_ : Unit {0}). Next} fault (update_rendering script)
+        (cut_saying {flow = λ (_ : Unit {0}). Next} fault (TickLine time ∷ []) world (run_timers script) wrote)))
 
     module _ {said : Option (List ℕ)} {fs : ℕ} (wrote : Told {A = Unit {0}} (Ok tt) before said f fs (TickLine time ∷ [])) where
-      timers-run : {A : Type 0} {state : A → World} (result : Result A RunFault) {after : Option (List ℕ)} {g : ℕ} → Runs goes_on state result said after fs g (run_timers script world)
+      timers-run : {A : Type 0} {state : World} (result : Result A RunFault) {after : Option (List ℕ)} {g : ℕ} → Runs goes_on state result said after fs g (run_timers script world)
           → Runs goes_on state result before after f g (say (TickLine time ∷ []) world followed_by run_timers script)
       timers-run result run = then_run result (run_timers script) refl (say_run (Ok (tt {0})) wrote) run
 
       -- the timers were cut off
-      pub tick_timers_cut : {A B : Type 0} {left : A → World} {state : B → World} (fault : RunFault) {after : Option (List ℕ)} {g : ℕ}
-          → Runs goes_on left (Err fault) said after fs g (run_timers script world) → Runs goes_on state (Err fault) before after f g (tick script world)
-      tick_timers_cut {A = A} {left = left} fault run =
+      pub tick_timers_cut : {A B : Type 0} {state : World} (fault : RunFault) {after : Option (List ℕ)} {g : ℕ}
+          → Runs {A = A} goes_on state (Err fault) said after fs g (run_timers script world) → Runs {A = B} goes_on state (Err fault) before after f g (tick script world)
+      tick_timers_cut {A = A} fault run =
           run_same tick-is
-          (cut_run {flow = λ (_ : A). Next} {state = left} fault (run_tasks script) (cut_run fault (update_rendering script) (timers-run (Err fault) run)))
+          (cut_run {flow = λ (_ : A). Next} fault (run_tasks script) (cut_run fault (update_rendering script) (timers-run (Err fault) run)))
 
-      module _ {A : Type 0} {value : A} {timed : World} {ran : Option (List ℕ)} {fr : ℕ} (timers : Runs goes_on (λ (_ : A). timed) (Ok value) said ran fs fr (run_timers script world)) where
-        update-run : {B : Type 0} {state : B → World} (result : Result B RunFault) {after : Option (List ℕ)} {g : ℕ} → Runs goes_on state result ran after fr g (update_rendering script timed)
+      module _ {A : Type 0} {value : A} {timed : World} {ran : Option (List ℕ)} {fr : ℕ} (timers : Runs goes_on timed (Ok value) said ran fs fr (run_timers script world)) where
+        update-run : {B : Type 0} {state : World} (result : Result B RunFault) {after : Option (List ℕ)} {g : ℕ} → Runs goes_on state result ran after fr g (update_rendering script timed)
             → Runs goes_on state result before after f g (say (TickLine time ∷ []) world followed_by run_timers script followed_by update_rendering script)
         update-run result run = then_run result (update_rendering script) refl (timers-run (Ok value) timers) run
 
         -- the update was cut off
-        pub tick_update_cut : {B C : Type 0} {flow : B → World} {state : C → World} (fault : RunFault) {after : Option (List ℕ)} {g : ℕ}
-            → Runs goes_on flow (Err fault) ran after fr g (update_rendering script timed) → Runs goes_on state (Err fault) before after f g (tick script world)
+        pub tick_update_cut : {B C : Type 0} {state : World} (fault : RunFault) {after : Option (List ℕ)} {g : ℕ}
+            → Runs {A = B} goes_on state (Err fault) ran after fr g (update_rendering script timed) → Runs {A = C} goes_on state (Err fault) before after f g (tick script world)
         tick_update_cut fault run = run_same tick-is (cut_run fault (run_tasks script) (update-run (Err fault) run))
 
         -- all were run
-        pub tick_run : {B C : Type 0} {shown : B} {updated : World} {state : C → World} (result : Result C RunFault) {mid after : Option (List ℕ)} {fm g : ℕ}
-            → Runs goes_on (λ (_ : B). updated) (Ok shown) ran mid fr fm (update_rendering script timed) → Runs goes_on state result mid after fm g (run_tasks script updated)
+        pub tick_run : {B C : Type 0} {shown : B} {updated state : World} (result : Result C RunFault) {mid after : Option (List ℕ)} {fm g : ℕ}
+            → Runs goes_on updated (Ok shown) ran mid fr fm (update_rendering script timed) → Runs goes_on state result mid after fm g (run_tasks script updated)
             → Runs goes_on state result before after f g (tick script world)
         tick_run {shown = shown} result update tasks = run_same tick-is (then_run result (run_tasks script) refl (update-run (Ok shown) update) tasks)

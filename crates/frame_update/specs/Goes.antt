@@ -25,16 +25,12 @@ loans_of run = (run.page.ghost_name, run.sink.ghost_name)
 abbrev pub IsUnderWay : {K L : Type 0} → Run K L → Type 0
 IsUnderWay run = IsPrepared run.script.now.items (world_of run)
 
--- a run before and after a step of the definitions, whose state is made up of the returned value and the world: what the sink
--- takes, how many writes fail and the state of the page are as the definition says; the page is prepared for the next step; the
--- script is the same; and the page and the sink are those that were lent, so that the lender knows what became of them
-pub record GoesTo {K L A S : Type 0} (state : A → World → S) (taken : K → Option (List ℕ)) (faults : K → ℕ) (old new : Run K L) (result : Result A RunFault) (said : Said S)
+-- a run before and after a step of the definitions: what the sink takes, how many writes fail and, at its end or at a limit, the world
+-- of the page are as the definition says; at its end the page is prepared for the next step; the script is the same; and the page and
+-- the sink are those that were lent, so that the lender knows what became of them
+pub record Goes {K L A : Type 0} (taken : K → Option (List ℕ)) (faults : K → ℕ) (old new : Run K L) (result : Result A RunFault) (said : Said World)
     : Type 0 where
-  pub says : Runs goes_on (λ value. state value (world_of new)) result (taken old.sink.now) (taken new.sink.now) (faults old.sink.now) (faults new.sink.now) said
+  pub says : Runs goes_on (world_of new) result (taken old.sink.now) (taken new.sink.now) (faults old.sink.now) (faults new.sink.now) said
   pub ready : IfOk result (λ _. IsUnderWay new)
   pub script : new.script ≡ old.script
   pub lent : loans_of new ≡ loans_of old
-
--- the same with the world as the state
-abbrev pub Goes : {K L A : Type 0} → (K → Option (List ℕ)) → (K → ℕ) → Run K L → Run K L → Result A RunFault → Said World → Type 0
-Goes taken faults old new result said = GoesTo (λ value world. world) taken faults old new result said

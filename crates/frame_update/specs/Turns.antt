@@ -2,12 +2,7 @@
 use Rattle.std.specs.Prelude.{ℕ, ◌<◌, min, List, length, Option, None, Some}
 use Rattle.std.specs.List.{AllByRecursion}
 use Rattle.page_model.specs.World.{World}
-use Rattle.page_model.specs.Loop.{Broadcast}
 use Rattle.depth_gather.specs.declared.entries.ResizeEntry.{ResizeEntry}
-
--- a broadcast in a world with the least depth of the entries so far
-abbrev pub broadcast_at : Option ℕ → World → Broadcast
-broadcast_at least world = record { world = world; shallowest = least }
 
 -- the lesser of the least depth so far, if there is one, and a further depth
 abbrev pub least_with : Option ℕ → ℕ → ℕ

@@ -11,8 +11,8 @@ ghost use Rattle.page_model.specs.Runs.{lifted};
 ghost use Rattle.depth_gather.specs.Entries.{seen_entry, HasLengths};
 ghost use Rattle.loop_laws.specs.Rounds.{goes_on as has_round, round_depth};
 ghost use Rattle.page_laws.specs.Ready.{IsReadyFor};
-ghost use Rattle.frame_update.specs.Goes.{handlers_of, world_of, Goes, GoesTo, IsUnderWay};
-ghost use Rattle.frame_update.specs.Turns.{broadcast_at, least_with, AreEntriesIn};
+ghost use Rattle.frame_update.specs.Goes.{handlers_of, world_of, Goes, IsUnderWay};
+ghost use Rattle.frame_update.specs.Turns.{least_with, AreEntriesIn};
 
 use crate::events::fire;
 use crate::run::{Run, call_handler};
@@ -53,7 +53,8 @@ fn end_turn(page: &mut Page, document: DocumentId, observer: ObserverId)
     }
 }
 
-// Calls the callback of an observer at its turn, and then clears its active list, if the document is still Active.
+// Calls the callback of an observer at its turn, and then clears its active list, if the document is still Active. A limit
+// that the callback meets ends the turn too, so the list is cleared then as well.
 fn call_observer<K: Sink, L: Ledger>(
     run: &mut Run<'_, K, L>,
     document: DocumentId,
@@ -70,9 +71,18 @@ fn call_observer<K: Sink, L: Ledger>(
     let observer = delivery.observer;
     let (_, handler) = run.page.callback_of(Label::Observer(observer));
     let entries = Entries::Resize(observer, delivery.entries);
-    call_handler(run, document, handler, &entries)?;
-    end_turn(run.page, document, observer);
-    Ok(())
+    match call_handler(run, document, handler, &entries) {
+        Ok(()) => {
+            end_turn(run.page, document, observer);
+            Ok(())
+        }
+        Err(RunFault::Limit { kind, line, number }) => {
+            end_turn(run.page, document, observer);
+            Err(RunFault::Limit { kind, line, number })
+        }
+        Err(RunFault::Memory) => Err(RunFault::Memory),
+        Err(RunFault::WriteFault) => Err(RunFault::WriteFault),
+    }
 }
 
 // Broadcasts the active observations of a document, as long as it is Active, by index, since a callback may create observers
@@ -82,7 +92,8 @@ fn broadcast<K: Sink, L: Ledger>(
     document: DocumentId,
 ) -> Result<Option<u32>, RunFault>
     requires ready { IsUnderWay run.old }
-    ensures { GoesTo broadcast_at K.taken K.faults run.old run.new result (broadcast (handlers_of run.old) document.0 (world_of run.old)) }
+    ensures goes { Goes K.taken K.faults run.old run.new result (lifted (λ so_far. so_far.world) (broadcast (handlers_of run.old) document.0 (world_of run.old))) }
+    ensures least { IfOk result (λ least. (broadcast (handlers_of run.old) document.0 (world_of run.old)).state.shallowest ≡ least) }
 {
     entries_are_those_of_a_broadcast();
     let mut least = None;

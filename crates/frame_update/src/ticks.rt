@@ -52,7 +52,7 @@ fn run_timed<'a, K: Sink, L: Ledger>(
 ) -> Result<(), RunFault>
     requires ready { IsPrepared script.now.items page.old.world }
     requires time { page.old.world.clock ≡ time }
-    ensures says { Runs goes_on (λ _. page.new.world) result (K.taken sink.old) (K.taken sink.new) (K.faults sink.old) (K.faults sink.new)
+    ensures says { Runs goes_on page.new.world result (K.taken sink.old) (K.taken sink.new) (K.faults sink.old) (K.faults sink.new)
         (tick (handlers_in script.now.items) page.old.world) }
     ensures ready { IfOk result (λ _. IsPrepared script.now.items page.new.world) }
 {
@@ -98,9 +98,10 @@ fn refuse<K: Sink>(
 /// that write its lines of rounds and of loop errors (law `all_loops_are_listed` of `loop_laws`, clause `items`).
 ///
 /// # Errors
-/// - `Limit` only if a limit is met, and then never `Ok`; every line before the limit's own was written.
+/// - `Limit` only if a limit is met, and then never `Ok`; every line before the limit's own was written, and the page's world
+///   is that of the definition at the limit.
 /// - `Memory`, and `WriteFault` only if the sink's fault count rose in this call; either may come before a limit. A prefix of
-///   the lines was written.
+///   the lines was written, and nothing is said of the page's world, which may be one inside of a step.
 pub fn tick<K: Sink, L: Ledger>(
     alloc: Global,
     page: &mut Page,
@@ -112,7 +113,7 @@ pub fn tick<K: Sink, L: Ledger>(
 ) -> Result<(), RunFault>
     requires ready { IsReady script.now.items page.old.world }
     requires time { IsTime time }
-    ensures says { Runs goes_on (λ _. page.new.world) result (K.taken sink.old) (K.taken sink.new) (K.faults sink.old) (K.faults sink.new)
+    ensures says { Runs goes_on page.new.world result (K.taken sink.old) (K.taken sink.new) (K.faults sink.old) (K.faults sink.new)
         (caught (run_tick (handlers_in script.now.items) line time page.old.world)) }
     ensures loops { AllByRecursion (IsExact (handlers_in script.now.items)) (item_loops (handlers_in script.now.items) (Tick line time) page.old.world) }
     ensures ready { IfOk result (λ _. IsReady script.now.items page.new.world) }

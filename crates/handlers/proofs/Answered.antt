@@ -23,7 +23,7 @@ use Rattle.trace_runs.specs.Runs.{Runs}
 use Rattle.trace_runs.specs.Writes.{Told}
 use Rattle.trace_runs.proofs.Answered.{answered_did, answered_met, threw_run, once_begun_is}
 use Rattle.trace_runs.proofs.Lines.{says_none}
-use Rattle.trace_runs.proofs.Runs.{run_same, cut_as, ended_as, only_if_true, only_if_false, say_run}
+use Rattle.trace_runs.proofs.Runs.{run_same, ended_as, only_if_true, only_if_false, say_run, unsaid_run}
 use Rattle.page_state.specs.Answers.{Applied, Moved}
 use Rattle.page_names.specs.Things.{present_of}
 use Rattle.page_state.specs.Things.{present_with}
@@ -52,7 +52,7 @@ limit_said kind line version state = record { lines = LimitLine kind line (limit
 
 pub refused_run : {A : Type 0} {version : Version} (fault : PageFault) (line : ℕ) (result : Result Flow RunFault) (before after : Option (List ℕ)) (f g : ℕ) (old new : World) (step : Step A)
     (next : A → Said World) → version ≡ new.version → Failed fault old new step → Refused version fault line result before after f g
-    → Runs flow_of (λ (value : Flow). new) result before after f g (answered line old next step)
+    → Runs flow_of new result before after f g (answered line old next step)
 refused_run (Throw kind) line result before after f g old new step next same failed refused = threw_run line old next failed.0 failed.1 (refused new)
 refused_run (Limit kind) line result before after f g old new step next same failed refused =
     run_same
@@ -64,7 +64,7 @@ refused_run Memory line result before after f g old new step next same failed re
 
 -- a command that isn't begun
 pub unbegun_run : {version : Version} (fault : PageFault) (line : ℕ) (result : Result Flow RunFault) (before after : Option (List ℕ)) (f g : ℕ) (old new : World) (run : World → Said World)
-    → version ≡ new.version → Moved (Err fault) old new (begun_in old) → Refused version fault line result before after f g → Runs flow_of (λ (value : Flow). new) result before after f g (once_begun line old run)
+    → version ≡ new.version → Moved (Err fault) old new (begun_in old) → Refused version fault line result before after f g → Runs flow_of new result before after f g (once_begun line old run)
 unbegun_run fault line result before after f g old new run same moved refused =
     run_same (once_begun_is line old run) (refused_run fault line result before after f g old new (begun_in old) run same (moved_failed fault old new (begun_in old) moved) refused)
 
@@ -74,14 +74,14 @@ begun_is line old begun run is = sym (answered_did line old run is) ∙ once_beg
 
 -- a command that was done, with its lines
 pub told_run : (line : ℕ) (old : World) {new : World} {step : Step ModelEffect} {before after : Option (List ℕ)} {f g : ℕ} {lines : List TraceLine} → step ≡ Did (record { world = new; lines = lines })
-    → Told {A = Unit {0}} (Ok tt) before after f g lines → Runs flow_of (λ (value : Flow). new) (Ok Next) before after f g (answered line old said_by step)
+    → Told {A = Unit {0}} (Ok tt) before after f g lines → Runs flow_of new (Ok Next) before after f g (answered line old said_by step)
 told_run line old {new} {lines = lines} is wrote = run_same (sym (answered_did line old said_by is)) (ended_as refl refl (say_run (Ok (tt {0})) {lines = lines} {state = new} wrote))
 
 pub untold_run : (fault : RunFault) (line : ℕ) (old : World) {new : World} {step : Step ModelEffect} {before after : Option (List ℕ)} {f g : ℕ} {lines : List TraceLine}
     → step ≡ Did (record { world = new; lines = lines }) → Told {A = Unit {0}} (Err fault) before after f g lines
-    → Runs flow_of (λ (value : Flow). new) (Err fault) before after f g (answered line old said_by step)
+    → Runs flow_of new (Err fault) before after f g (answered line old said_by step)
 untold_run fault line old {new} {lines = lines} is wrote =
-    run_same (sym (answered_did line old said_by is)) (cut_as fault refl (λ limited. limited) (say_run {A = Unit {0}} (Err fault) {lines = lines} {state = new} wrote))
+    run_same (sym (answered_did line old said_by is)) (unsaid_run fault {lines = lines} wrote)
 
 -- the target of an entry is that of the entry with whether it is intersecting
 pub target_same : (target : Option NodeId) (meets : Option Bool) → present_target (present_of target) ≡ present_target (present_with target meets)
@@ -102,6 +102,7 @@ limit_refused version fault kind line number now f is most =
         written = says_none now;
         unfailed = refl;
         flow_is = refl;
+        state_is = refl;
       };
     })
 
@@ -110,8 +111,8 @@ same_failed fault old new same failed = subst (Failed fault old new) same failed
 
 -- the same for an entry in other words
 pub apply_same : {result : Result Flow RunFault} {before after : Option (List ℕ)} {f g : ℕ} {new : World} (line : ℕ) (world : World) (handlers : Handlers) (action : Action) {present other : Present}
-    → present ≡ other → Runs flow_of (λ (value : Flow). new) result before after f g (answered line world said_by (does handlers world present action))
-    → Runs flow_of (λ (value : Flow). new) result before after f g (answered line world said_by (does handlers world other action))
+    → present ≡ other → Runs flow_of new result before after f g (answered line world said_by (does handlers world present action))
+    → Runs flow_of new result before after f g (answered line world said_by (does handlers world other action))
 apply_same line world handlers action same run = run_same (ap (λ it. answered line world said_by (does handlers world it action)) same) run
 
 -- a `when` whose condition holds, and one whose condition doesn't

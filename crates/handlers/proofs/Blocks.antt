@@ -88,7 +88,7 @@ block_same script entries present world same = ap (λ it. run_block script entri
 
 -- a page stays ready for a tick behind a command with its block
 pub command_ready : {before after : Option (List ℕ)} {f g : ℕ} (script : Script) (entries : List Present) (command : ModelCommand) (subject : Option ℕ) (old new : World) (result : Result Flow RunFault)
-    → AreIn old entries → Runs flow_of (λ (_ : Flow). new) result before after f g (run_command script entries command (present_at entries subject) old)
+    → AreIn old entries → Runs flow_of new result before after f g (run_command script entries command (present_at entries subject) old)
     → IsReadyFor (length script) old → IfOk result (λ _. IsReadyFor (length script) new)
 command_ready script entries command subject old new (Ok flow) are run ready =
     subst (λ (world : World). IsReadyFor (length script) world) run.ended.state_is

@@ -38,7 +38,7 @@ module _ (script : Script) (document : ℕ) (handler : Option ℕ) (handed : Ent
 
 -- a page stays ready for a tick behind a callback
 pub called_ready : {A : Type 0} {before after : Option (List ℕ)} {f g : ℕ} (script : Script) (document : ℕ) (handler : Option ℕ) (handed : Entries) (old new : World) (result : Result A RunFault)
-    → AreIn old (presents handed) → Runs goes_on (λ (_ : A). new) result before after f g (call script document handler handed old)
+    → AreIn old (presents handed) → Runs goes_on new result before after f g (call script document handler handed old)
     → IsReadyFor (length script) old → IfOk result (λ _. IsReadyFor (length script) new)
 called_ready script document handler handed old new (Ok value) are run ready =
     subst (λ (world : World). IsReadyFor (length script) world) run.ended.state_is (ready-called script old ready document handler handed are)

@@ -16,7 +16,7 @@ use Rattle.page_model.specs.World.{Entry, Name, World}
 use Rattle.trace_text.specs.Ranges.{HasReach}
 use Rattle.trace_runs.specs.declared.faults.RunFault.{RunFault}
 use Rattle.trace_runs.specs.Writes.{Says, Told}
-use Rattle.trace_runs.proofs.Following.{cut_run, say_more}
+use Rattle.trace_runs.proofs.Following.{cut_saying, say_more}
 use Rattle.trace_runs.proofs.Lines.{says_none}
 use Rattle.trace_runs.proofs.Runs.{behind_run, run_same, say_run, wrote_run}
 use Rattle.page_state.specs.Answers.{lines_of}
@@ -72,14 +72,14 @@ module _ (before after : Option (List ℕ)) (f g : ℕ) where
   wrote_behind : (result : Result (Unit {0}) RunFault) (mid : Option (List ℕ)) (fm : ℕ) (line : TraceLine) (lines : List TraceLine)
       → Told {A = Unit {0}} (Ok tt) before mid f fm (line ∷ []) → Told result mid after fm g lines → Told result before after f g (line ∷ lines)
   wrote_behind result mid fm line lines first second =
-      wrote_run {state = λ (value : Unit {0}). tt {0}} result (behind_run result (line ∷ []) first.0 first.1 (say_run result {lines = lines} {state = tt {0}} second))
+      wrote_run {state = tt {0}} result (behind_run result (line ∷ []) first.0 first.1 (say_run result {lines = lines} {state = tt {0}} second))
 
   -- a line, of which a part was written, and then others
   wrote_begun : (fault : RunFault) (line : TraceLine) (lines : List TraceLine) → Told {A = Unit {0}} (Err fault) before after f g (line ∷ [])
       → Told {A = Unit {0}} (Err fault) before after f g (line ∷ lines)
   wrote_begun fault line lines wrote =
-      wrote_run {A = Unit {0}} {state = λ value. tt {0}} (Err fault)
-      (run_same (sym (say_more line lines (tt {0}))) (cut_run fault (say lines) (say_run {A = Unit {0}} (Err fault) {lines = line ∷ []} {state = tt {0}} wrote)))
+      wrote_run {A = Unit {0}} {state = tt {0}} (Err fault)
+      (run_same (sym (say_more line lines (tt {0}))) (cut_saying {A = Unit {0}} {flow = λ value. Next} fault (line ∷ []) (tt {0}) (say lines) wrote))
 
   -- the line of a queue that was taken, and then those of its entries
   module _ (names : List Name) (observer : ℕ) (name text : List ℕ) (list : List CutEntry) (entries : List Entry) (named : name ≡ text) (seen : seen_entries list ≡ entries) where

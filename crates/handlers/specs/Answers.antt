@@ -17,8 +17,8 @@ use Rattle.page_state.specs.declared.answers.PageFault.TheVariants.{Throw, Limit
 -- it was; the number of a limit depends on the version
 abbrev pub Refused : Version → PageFault → ℕ → Result Flow RunFault → Option (List ℕ) → Option (List ℕ) → ℕ → ℕ → Type 0
 Refused version (Throw kind) line result before after faults faults_after = (world : World) →
-    Runs flow_of (λ _. world) result before after faults faults_after (record { lines = ThrowLine line kind ∷ []; flow = runs.Thrown; state = world })
+    Runs flow_of world result before after faults faults_after (record { lines = ThrowLine line kind ∷ []; flow = runs.Thrown; state = world })
 Refused version (Limit kind) line result before after faults faults_after = (world : World) →
-    Runs flow_of (λ _. world) result before after faults faults_after (record { lines = LimitLine kind line (limit_number version kind) ∷ []; flow = runs.Limited; state = world })
+    Runs flow_of world result before after faults faults_after (record { lines = LimitLine kind line (limit_number version kind) ∷ []; flow = runs.Limited; state = world })
 Refused version Memory line result before after faults faults_after = (world : World) (said : Said World) →
-    Runs flow_of (λ _. world) result before after faults faults_after said
+    Runs flow_of world result before after faults faults_after said

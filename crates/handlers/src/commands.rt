@@ -30,9 +30,10 @@ use trace_runs::{Flow, RunFault, write_throw};
 /// still so (`IsReadyFor`).
 ///
 /// # Errors
-/// - `Limit` only if a limit is met, and then never `Ok`; all but the limit's own line was written.
+/// - `Limit` only if a limit is met, and then never `Ok`; all but the limit's own line was written, and the page's world is
+///   that of the definition at the limit.
 /// - `Memory`, and `WriteFault` only if the sink's fault count rose in this call; either may come before a limit. A prefix of
-///   the lines was written.
+///   the lines was written, and nothing is said of the page's world, which may be one inside of a step.
 #[cycle(blocks)]
 pub fn run_command<K: Sink, L: Ledger>(
     alloc: Global,
@@ -46,7 +47,7 @@ pub fn run_command<K: Sink, L: Ledger>(
 ) -> Result<Flow, RunFault>
     requires allowed { IsAllowed command.now }
     requires targets { AreIn page.old.world (presents (entries_of entries.now)) }
-    ensures says { Runs flow_of (λ _. page.new.world) result (K.taken sink.old) (K.taken sink.new) (K.faults sink.old) (K.faults sink.new)
+    ensures says { Runs flow_of page.new.world result (K.taken sink.old) (K.taken sink.new) (K.faults sink.old) (K.faults sink.new)
         (run_command (handlers_in script.now.items) (presents (entries_of entries.now)) (command_of command.now) (present_at (presents (entries_of entries.now)) subject) page.old.world) }
     ensures ready { IsReadyFor (length (handlers_in script.now.items)) page.old.world → IfOk result (λ _. IsReadyFor (length (handlers_in script.now.items)) page.new.world) }
 {
@@ -95,7 +96,7 @@ fn run_each<K: Sink, L: Ledger>(
     steps: &mut Steps<L>,
 ) -> Result<Flow, RunFault>
     requires targets { AreIn page.old.world (presents (entries_of entries.now)) }
-    ensures { Runs flow_of (λ _. page.new.world) result (K.taken sink.old) (K.taken sink.new) (K.faults sink.old) (K.faults sink.new)
+    ensures { Runs flow_of page.new.world result (K.taken sink.old) (K.taken sink.new) (K.faults sink.old) (K.faults sink.new)
         (for_each (run_block (handlers_in script.now.items) (presents (entries_of entries.now)) block.now) (presents (entries_of entries.now)) page.old.world) }
 {
     runs_take_nothing_back();
@@ -134,7 +135,7 @@ fn run_when<K: Sink, L: Ledger>(
 ) -> Result<Flow, RunFault>
     requires allowed { TestAllowed condition.now.asks }
     requires targets { AreIn page.old.world (presents (entries_of entries.now)) }
-    ensures { Runs flow_of (λ _. page.new.world) result (K.taken sink.old) (K.taken sink.new) (K.faults sink.old) (K.faults sink.new)
+    ensures { Runs flow_of page.new.world result (K.taken sink.old) (K.taken sink.new) (K.faults sink.old) (K.faults sink.new)
         (answered line page.old.world
         (only_if (run_block (handlers_in script.now.items) (presents (entries_of entries.now)) block.now (present_at (presents (entries_of entries.now)) subject)) page.old.world)
         (holds page.old.world (present_at (presents (entries_of entries.now)) subject) (condition_of condition.now))) }
@@ -161,7 +162,7 @@ pub(crate) fn run_block<K: Sink, L: Ledger>(
     steps: &mut Steps<L>,
 ) -> Result<Flow, RunFault>
     requires targets { AreIn page.old.world (presents (entries_of entries.now)) }
-    ensures { Runs flow_of (λ _. page.new.world) result (K.taken sink.old) (K.taken sink.new) (K.faults sink.old) (K.faults sink.new)
+    ensures { Runs flow_of page.new.world result (K.taken sink.old) (K.taken sink.new) (K.faults sink.old) (K.faults sink.new)
         (run_block (handlers_in script.now.items) (presents (entries_of entries.now)) block.now (present_at (presents (entries_of entries.now)) subject) page.old.world) }
 {
     runs_take_nothing_back();

@@ -31,7 +31,7 @@ fn run_numbered<K: Sink, L: Ledger>(
     steps: &mut Steps<L>,
 ) -> Result<(), RunFault>
     requires targets { AreIn page.old.world (presents (entries_of entries.now)) }
-    ensures { Runs goes_on (λ _. page.new.world) result (K.taken sink.old) (K.taken sink.new) (K.faults sink.old) (K.faults sink.new)
+    ensures { Runs goes_on page.new.world result (K.taken sink.old) (K.taken sink.new) (K.faults sink.old) (K.faults sink.new)
         (run_handler (handlers_in script.now.items) (entries_of entries.now) (Some number) page.old.world) }
 {
     match script.handler(number) {
@@ -57,7 +57,7 @@ fn run_named<K: Sink, L: Ledger>(
     steps: &mut Steps<L>,
 ) -> Result<(), RunFault>
     requires targets { AreIn page.old.world (presents (entries_of entries.now)) }
-    ensures { Runs goes_on (λ _. page.new.world) result (K.taken sink.old) (K.taken sink.new) (K.faults sink.old) (K.faults sink.new)
+    ensures { Runs goes_on page.new.world result (K.taken sink.old) (K.taken sink.new) (K.faults sink.old) (K.faults sink.new)
         (run_handler (handlers_in script.now.items) (entries_of entries.now) (option_map (λ it. it.0) handler) page.old.world) }
 {
     match handler {
@@ -71,9 +71,10 @@ fn run_named<K: Sink, L: Ledger>(
 /// was ready for a tick of the script is still so (`IsReadyFor`).
 ///
 /// # Errors
-/// - `Limit` only if a limit is met, and then never `Ok`; all but the limit's own line was written.
+/// - `Limit` only if a limit is met, and then never `Ok`; all but the limit's own line was written, and the page's world is
+///   that of the definition at the limit.
 /// - `Memory`, and `WriteFault` only if the sink's fault count rose in this call; either may come before a limit. A prefix of
-///   the lines was written.
+///   the lines was written, and nothing is said of the page's world, which may be one inside of a step.
 pub fn run_handler<K: Sink, L: Ledger>(
     alloc: Global,
     page: &mut Page,
@@ -85,7 +86,7 @@ pub fn run_handler<K: Sink, L: Ledger>(
     steps: &mut Steps<L>,
 ) -> Result<(), RunFault>
     requires handed { AreHanded page.old.world (entries_of entries.now) }
-    ensures says { Runs goes_on (λ _. page.new.world) result (K.taken sink.old) (K.taken sink.new) (K.faults sink.old) (K.faults sink.new)
+    ensures says { Runs goes_on page.new.world result (K.taken sink.old) (K.taken sink.new) (K.faults sink.old) (K.faults sink.new)
         (call (handlers_in script.now.items) document.0 (option_map (λ it. it.0) handler) (entries_of entries.now) page.old.world) }
     ensures ready { IsReadyFor (length (handlers_in script.now.items)) page.old.world → IfOk result (λ _. IsReadyFor (length (handlers_in script.now.items)) page.new.world) }
 {

@@ -71,7 +71,7 @@ pub(crate) fn apply<K: Sink, L: Ledger>(
     requires begun { page.old.begun ≡ true }
     requires allowed { ActionAllowed action.now }
     requires subject { IsSubject (length page.old.world.tree.elements) subject.target }
-    ensures { Runs flow_of (λ _. page.new.world) result (K.taken sink.old) (K.taken sink.new) (K.faults sink.old) (K.faults sink.new)
+    ensures { Runs flow_of page.new.world result (K.taken sink.old) (K.taken sink.new) (K.faults sink.old) (K.faults sink.new)
         (answered line page.old.world said_by (does (handler_names (handlers_in script.now.items)) page.old.world (subject_of subject) (action_of action.now))) }
 {
     commands_read_the_target_alone();

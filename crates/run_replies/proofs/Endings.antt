@@ -51,7 +51,7 @@ module _ (script : Script) (world : World) (opening : world ≡ opening_world (s
   done_world ended = sym ended.state_is ∙ ap (λ (x : Outcome). x.world) (run-outcome script world opening)
 
   -- to a limit, whose line is then written
-  module _ (kind : LimitKind) (line most : ℕ) (mid : Option (List ℕ)) (fm : ℕ) (met : Run.MeetsLimit kind line most before mid f fm said) where
+  module _ {new : World} (kind : LimitKind) (line most : ℕ) (mid : Option (List ℕ)) (fm : ℕ) (met : Run.MeetsLimit kind line most new before mid f fm said) where
     whole : bytes_of met.lines ++ bytes_of (LimitLine kind line most ∷ []) ≡ bytes_of said.lines
     whole = bytes_both met.lines (LimitLine kind line most ∷ []) ∙ sym (ap bytes_of met.last)
 

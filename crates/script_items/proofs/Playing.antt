@@ -37,7 +37,7 @@ module _ (script : List NamedBlock) (world : World) where
 
 -- a page is ready for the next item
 pub ready_behind : {A : Type 0} (script : List model.Item) (item : model.Item) (before after : World) (result : Result A RunFault) {taken taken_after : Option (List ℕ)} {f g : ℕ}
-    → IsReady script before → Runs goes_on (λ _. after) result taken taken_after f g (run_item (handlers_in script) item before) → IfOk result (λ _. IsReady script after)
+    → IsReady script before → Runs goes_on after result taken taken_after f g (run_item (handlers_in script) item before) → IfOk result (λ _. IsReady script after)
 ready_behind script item before after (Ok done) ready run =
     let handlers : ℕ = length (handlers_in script) in
     subst (λ (world : World). IsReady script world) run.ended.state_is

@@ -32,7 +32,7 @@ fn run_caught<K: Sink, L: Ledger>(
     steps: &mut Steps<L>,
 ) -> Result<(), RunFault>
     requires { IsAllowed command.now }
-    ensures { Runs goes_on (λ _. page.new.world) result (K.taken sink.old) (K.taken sink.new) (K.faults sink.old) (K.faults sink.new)
+    ensures { Runs goes_on page.new.world result (K.taken sink.old) (K.taken sink.new) (K.faults sink.old) (K.faults sink.new)
         (caught (run_command (handlers_in script.now.items) [] (command_of command.now) NoEntry page.old.world)) }
 {
     let nothing = Entries::Nothing;
@@ -52,7 +52,7 @@ pub fn run_item<K: Sink, L: Ledger>(
 ) -> Result<(), RunFault>
     requires ready { IsReady script.now.items page.old.world }
     requires allowed { ItemAllowed item.now }
-    ensures says { Runs goes_on (λ _. page.new.world) result (K.taken sink.old) (K.taken sink.new) (K.faults sink.old) (K.faults sink.new)
+    ensures says { Runs goes_on page.new.world result (K.taken sink.old) (K.taken sink.new) (K.faults sink.old) (K.faults sink.new)
         (run_item (handlers_in script.now.items) (item_of item.now) page.old.world) }
     ensures ready { IfOk result (λ _. IsReady script.now.items page.new.world) }
 {
@@ -67,9 +67,9 @@ pub fn run_item<K: Sink, L: Ledger>(
 ///
 /// # Errors
 /// - `Limit` only if a limit is met, and always then unless an allocation or the sink fails first; every line up to its own
-///   was written.
+///   was written, and the page's world is that of the definition at the limit.
 /// - `WriteFault` only if the sink's fault count rose in this call, `Memory` if an allocation fails; a prefix of the lines
-///   was written.
+///   was written, and nothing is said of the page's world, which may be one inside of a step.
 pub fn play<K: Sink, L: Ledger>(
     alloc: Global,
     page: &mut Page,
@@ -78,7 +78,7 @@ pub fn play<K: Sink, L: Ledger>(
     steps: &mut Steps<L>,
 ) -> Result<(), RunFault>
     requires ready { IsReady script.now.items page.old.world }
-    ensures { Runs goes_on (λ _. page.new.world) result (K.taken sink.old) (K.taken sink.new) (K.faults sink.old) (K.faults sink.new) (run_items script.now.items page.old.world) }
+    ensures { Runs goes_on page.new.world result (K.taken sink.old) (K.taken sink.new) (K.faults sink.old) (K.faults sink.new) (run_items script.now.items page.old.world) }
 {
     for item in script.items() {
         run_item(alloc, page, script, item, sink, steps)?;

@@ -42,7 +42,7 @@ pub fn play_to_tick<K: Sink, L: Ledger>(
     steps: &mut Steps<L>,
 ) -> Result<u64, RunFault>
     requires { IsReady script.now.items page.old.world }
-    ensures says { Runs goes_on (λ _. page.new.world) result (K.taken sink.old) (K.taken sink.new) (K.faults sink.old) (K.faults sink.new)
+    ensures says { Runs goes_on page.new.world result (K.taken sink.old) (K.taken sink.new) (K.faults sink.old) (K.faults sink.new)
         (for_each (run_item (handlers_in script.now.items)) (to_tick number script.now.items) page.old.world) }
     ensures lacking { IfOk result (λ lacking. lacking ≡ number - tick_count script.now.items) }
 {

@@ -85,8 +85,8 @@ module _ (script : Script) (world : World) (opening : world ≡ opening_world (s
       (wrote_tells r Done (summary_text (said.lines)) before after f g tt (wrote (said.lines) (gathered_trace gathered taken (said.lines) none ended.written)))
 
   -- a run to a limit
-  pub limit_summary : (gathered taken : List ℕ) (fg gg : ℕ) (kind : LimitKind) (line most : ℕ) (status : Status) (before after : Option (List ℕ)) (f g : ℕ) → gathered ≡ []
-      → Run.MeetsLimit kind line most (Some gathered) (Some taken) fg gg said
+  pub limit_summary : {new : World} (gathered taken : List ℕ) (fg gg : ℕ) (kind : LimitKind) (line most : ℕ) (status : Status) (before after : Option (List ℕ)) (f g : ℕ) → gathered ≡ []
+      → Run.MeetsLimit kind line most new (Some gathered) (Some taken) fg gg said
       → ((lines : List TraceLine) → IsTrace taken lines → Tells status (record { text = summary_text (lines ++ (LimitLine kind line most ∷ [])); status = Limit }) before after f g)
       → Tells status (script_reply job.Summary script) before after f g
   limit_summary gathered taken fg gg kind line most status before after f g none met told =

@@ -57,8 +57,8 @@ module _ (sight : Sight) (number : ℕ) (script : model.Script) (world : World) 
       (sym (last_one lines (LimitLine kind line most)) ∙ ap last_of (sym last))
       ∙ by_flow Limited flow
 
-  pub limit_tells : {A : Type 0} (r : Result A RunFault) (kind : LimitKind) (line most : ℕ) (taken mid before after_it : Option (List ℕ)) (faults faults_after f g : ℕ)
-      → Run.MeetsLimit kind line most taken mid faults faults_after said
+  pub limit_tells : {A : Type 0} {new : World} (r : Result A RunFault) (kind : LimitKind) (line most : ℕ) (taken mid before after_it : Option (List ℕ)) (faults faults_after f g : ℕ)
+      → Run.MeetsLimit kind line most new taken mid faults faults_after said
       → Told r before after_it f g (LimitLine kind line most ∷ []) → Tells (status_after r Limit) (sight_reply sight number script) before after_it f g
   limit_tells r kind line most taken mid before after_it faults faults_after f g met told =
       subst (λ (reply : Reply). Tells (status_after r Limit) reply before after_it f g) (limit_reply kind line most met.lines met.last met.flow_is)

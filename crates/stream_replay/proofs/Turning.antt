@@ -94,14 +94,14 @@ module _ (line : ℕ) (script : List Item) (k : ℕ) (world : World) where
         ∙ ap (λ flow. stands_by flow (handlers_in script) (drop (k + 1) script) (said.state)) (sym ended.flow_is)
         ∙ ap (λ (t : Turn). t.standing) (sym (begun item is at))
 
-    pub limit_lines : (kind : LimitKind) (number most : ℕ) (gathered taken all : List ℕ) (f g : ℕ) → gathered ≡ [] → Run.MeetsLimit kind number most (Some gathered) (Some taken) f g said
+    pub limit_lines : {new : World} (kind : LimitKind) (number most : ℕ) (gathered taken all : List ℕ) (f g : ℕ) → gathered ≡ [] → Run.MeetsLimit kind number most new (Some gathered) (Some taken) f g said
         → Says (Some taken) (Some all) (LimitLine kind number most ∷ []) → IsTrace all turn.lines
     limit_lines kind number most gathered taken all f g none met last =
         subst (λ (t : Turn). IsTrace all t.lines) (sym (begun item is at))
         (subst (λ (lines : List TraceLine). IsTrace all lines) (sym met.last)
         (gathered_more taken all met.lines (LimitLine kind number most ∷ []) (gathered_trace gathered taken met.lines none met.written) last))
 
-    pub limit_standing : {kind : LimitKind} {number most : ℕ} {b a : Option (List ℕ)} {f g : ℕ} → Run.MeetsLimit kind number most b a f g said → Over outcomes.LimitMet ≡ turn.standing
+    pub limit_standing : {kind : LimitKind} {number most : ℕ} {new : World} {b a : Option (List ℕ)} {f g : ℕ} → Run.MeetsLimit kind number most new b a f g said → Over outcomes.LimitMet ≡ turn.standing
     limit_standing met =
         ap (λ flow. stands_by flow (handlers_in script) (drop (k + 1) script) (said.state)) (sym met.flow_is)
         ∙ ap (λ (t : Turn). t.standing) (sym (begun item is at))

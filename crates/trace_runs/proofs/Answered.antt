@@ -31,15 +31,15 @@ module _ {A : Type 0} (line : ℕ) (world : World) (next : A → Said World) {st
 
   -- a call that threw, in the world as it was, and its line was written or that was cut off
   pub threw_run : {B : Type 0} {flow : B → Flow} {new : World} {kind : ThrowKind} {result : Result B RunFault} {before after : Option (List ℕ)} {f g : ℕ}
-      → step ≡ Threw kind → new ≡ world → Runs flow (λ value. new) result before after f g (record { lines = ThrowLine line kind ∷ []; flow = Thrown; state = new })
-      → Runs flow (λ value. new) result before after f g (answered line world next step)
+      → step ≡ Threw kind → new ≡ world → Runs flow new result before after f g (record { lines = ThrowLine line kind ∷ []; flow = Thrown; state = new })
+      → Runs flow new result before after f g (answered line world next step)
   threw_run {kind = kind} threw same run =
       run_same (ap (λ (state : World). record { lines = ThrowLine line kind ∷ []; flow = Thrown; state = state }) same ∙ sym (answered_threw threw)) run
 
-  -- a limit that was met, of which nothing is written yet
-  pub met_run : {B : Type 0} {flow : B → Flow} {state : B → World} {kind : LimitKind} {now : Option (List ℕ)} {f : ℕ} → step ≡ Met kind
-      → Runs flow state (Err (faults.Limit kind line (limit_number (world.version) kind))) now now f f (answered line world next step)
-  met_run {kind = kind} {now} met = run_same (sym (answered_met met)) (record {
+  -- a limit that was met, in the world as it was, of which nothing is written yet
+  pub met_run : {B : Type 0} {flow : B → Flow} {new : World} {kind : LimitKind} {now : Option (List ℕ)} {f : ℕ} → step ≡ Met kind → new ≡ world
+      → Runs flow new (Err (faults.Limit kind line (limit_number (world.version) kind))) now now f f (answered line world next step)
+  met_run {kind = kind} {now} met same = run_same (sym (answered_met met)) (record {
     ended = tt;
     cut_off = record {
       lines = [];
@@ -47,6 +47,7 @@ module _ {A : Type 0} (line : ℕ) (world : World) (next : A → Said World) {st
       written = says_none now;
       unfailed = refl;
       flow_is = refl;
+      state_is = sym same;
     };
   })
 

@@ -57,7 +57,7 @@ pub fn write_throw<K: Sink>(
     kind: ThrowKind,
     sink: &mut K,
 ) -> Result<Flow, RunFault>
-    ensures runs { (state : World) → Runs flow_of (λ _. state) result (K.taken sink.old) (K.taken sink.new) (K.faults sink.old) (K.faults sink.new)
+    ensures runs { (state : World) → Runs flow_of state result (K.taken sink.old) (K.taken sink.new) (K.faults sink.old) (K.faults sink.new)
         (record { lines = ThrowLine line kind ∷ []; flow = Thrown; state = state }) }
     ensures memory { result ≡ Err RunFault.Memory → sink.new ≡ sink.old }
 {

@@ -3,7 +3,7 @@ use Rattle.std.specs.Prelude.{Ok, Err}
 use Rattle.page_model.specs.Callbacks.{Script, bubble}
 use Rattle.event_tables.specs.Seen.{seen_target}
 use Rattle.trace_runs.specs.Flows.{goes_on}
-use Rattle.trace_runs.proofs.Following.{cut_run, then_run}
+use Rattle.trace_runs.proofs.Following.{cut_run, cut_saying, then_run}
 use Rattle.trace_runs.proofs.Runs.{run_same, say_run}
 use Rattle.frame_update.proofs.Firing.{fire_is}
 use Rattle.frame_update.proofs.Going.{over_first, passed_on, stopped}
@@ -13,8 +13,8 @@ pub returns-in_err-write_one : goal.returns-in_err-write_one
 returns-in_err-write_one g c =
     stopped c.from_residual.result c.in_err-write_one.field-0.0 c.from_residual.ensures refl refl
     (run_same (fire_is _ _ _ _ _)
-    (cut_run {A = Unit {0}} {flow = goes_on} {state = λ value. c.args.run.now.page.now.world} c.in_err-write_one.field-0.0 _
-    (cut_run c.in_err-write_one.field-0.0 _ (say_run {A = Unit {0}} (Err c.in_err-write_one.field-0.0) c.in_err-write_one.ensures.told))))
+    (cut_run {A = Unit {0}} {flow = goes_on} c.in_err-write_one.field-0.0 _
+    (cut_saying c.in_err-write_one.field-0.0 _ _ _ c.in_err-write_one.ensures.told)))
 
 pub returns-in_err-invoke : goal.returns-in_err-invoke
 returns-in_err-invoke g c =

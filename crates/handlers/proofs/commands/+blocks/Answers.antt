@@ -54,7 +54,7 @@ run_each-loop-place-init g t c = record { following = begin; targets = c.require
 
 pub run_each-returns-in-Ok-Thrown : goal.run_each-returns-in-Ok-Thrown
 run_each-returns-in-Ok-Thrown g t c =
-    end_thrown _ refl refl refl
+    end_thrown _ refl refl
     (rest_same (each_more _ _ c.loop-place.place _ _ (omega (arith, c.count-place-end.ensures)) (present_is _ c.loop-place.place (omega (arith, c.count-place-end.ensures)))) c.loop-place.invariant.following)
     (rw c.in-Ok-Thrown.field-0-is at c.in-Ok-Thrown.ensures)
 
@@ -118,7 +118,7 @@ run_each-returns-in-Err g t c =
 
 pub run_block-returns-in-Ok-Thrown : goal.run_block-returns-in-Ok-Thrown
 run_block-returns-in-Ok-Thrown g t c =
-    end_thrown _ refl refl refl
+    end_thrown _ refl refl
     (rest_same (block_more c.as_slice-command-items.result.now _ _ (omega arith) c.command-item.is _ _ _ _) c.loop-command.invariant.following)
     (rw c.in-Ok-Thrown.field-0-is at c.in-Ok-Thrown.ensures.says)
 

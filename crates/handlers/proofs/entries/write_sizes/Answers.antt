@@ -34,7 +34,7 @@ write_one-requires g c =
 
 pub returns-in-Err : goal.returns-in-Err
 returns-in-Err g c =
-    wrote_run {A = Unit {0}} {state = λ value. value} (Err c.in-Err.fault)
+    wrote_run {A = Unit {0}} {state = tt {0}} (Err c.in-Err.fault)
     (end_unsaid c.in-Err.fault _ _ _
     (rest_same
     (lines_more _ c.args.entries.now c.loop-entry.entry-index _ _ _ (omega arith) (get_or_default c.args.entries.now c.loop-entry.entry-index _ _ (omega arith)) c.resize_line-line.ensures)
@@ -51,4 +51,4 @@ loop-entry-preserved g c =
 
 pub returns : goal.returns
 returns g c =
-    wrote_run {A = Unit {0}} {state = λ value. value} (Ok (tt {0})) (done refl (rest_same (lines_none _ c.args.entries.now c.loop-entry.entry-index _ (omega arith)) c.loop-entry.invariant))
+    wrote_run {A = Unit {0}} {state = tt {0}} (Ok (tt {0})) (done refl (rest_same (lines_none _ c.args.entries.now c.loop-entry.entry-index _ (omega arith)) c.loop-entry.invariant))

@@ -1,7 +1,7 @@
 use Rattle.std.proofs.Common.{refl, sym}
-use Rattle.std.specs.Prelude.{Ok, Err}
+use Rattle.std.specs.Prelude.{Ok}
 use Rattle.script_model.specs.Scripts.{handlers_in}
-use Rattle.trace_runs.proofs.Following.{cut_run, then_run}
+use Rattle.trace_runs.proofs.Following.{cut_saying, then_run}
 use Rattle.trace_runs.proofs.Runs.{run_same, say_run, silent_run}
 use Rattle.handlers.proofs.Handlers.{call_active, call_inactive, called_ready}
 use Rattle.handlers.proofs.handler.run_handler.Goals as goal
@@ -17,7 +17,7 @@ returns-in-Ok-clause-says g c =
 pub returns-in-Err-clause-says : goal.returns-in-Err-clause-says
 returns-in-Err-clause-says g c =
     run_same (call_active _ c.args.document.0 _ _ _ (sym c.if-not-is_active.ensures))
-    (cut_run c.in-Err.fault _ (say_run {A = Unit {0}} (Err c.in-Err.fault) c.in-Err.ensures))
+    (cut_saying c.in-Err.fault _ _ _ c.in-Err.ensures)
 
 pub returns-then-not-is_active-clause-ready : goal.returns-then-not-is_active-clause-ready
 returns-then-not-is_active-clause-ready g c =

@@ -8,7 +8,7 @@ returns-in-None g c = run_same (unnamed_is _ _ c.args.number _ (no_handler_is _ 
 
 pub returns-in-Ok : goal.returns-in-Ok
 returns-in-Ok g c =
-    run_same (named_is _ _ c.args.number _ _ (handler_is _ c.args.number _ c.in-Some.ensures.value)) (caught_ended c.in-Ok.field-0 refl c.in-Ok.ensures)
+    run_same (named_is _ _ c.args.number _ _ (handler_is _ c.args.number _ c.in-Some.ensures.value)) (caught_ended c.in-Ok.field-0 c.in-Ok.ensures)
 
 pub returns-in-Err : goal.returns-in-Err
 returns-in-Err g c =

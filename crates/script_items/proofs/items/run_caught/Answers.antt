@@ -1,4 +1,3 @@
-use Rattle.std.proofs.Common.{refl}
 use Rattle.trace_runs.proofs.Runs.{caught_cut, caught_ended}
 use Rattle.script_items.proofs.Stopped.{stopped_run}
 use Rattle.script_items.proofs.items.run_caught.Goals as goal
@@ -8,4 +7,4 @@ returns-in_err-run_command g c =
     stopped_run c.from_residual.result c.in_err-run_command.field-0.0 c.from_residual.ensures (caught_cut c.in_err-run_command.field-0.0 c.in_err-run_command.ensures.says)
 
 pub returns : goal.returns
-returns g c = caught_ended _ refl c.in_ok-run_command.ensures.says
+returns g c = caught_ended _ c.in_ok-run_command.ensures.says
