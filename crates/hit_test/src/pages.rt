@@ -14,7 +14,7 @@ use std::sync::ledger::Ledger;
 use step_count::Steps;
 
 /// Returns the elements of a page that a point of the viewport of `top` hits, topmost first (CSSOM View, 5:
-/// `elementsFromPoint`). Boxes that are due are recomputed first, in at most one step each. The page is otherwise unchanged.
+/// `elementsFromPoint`). Boxes that are due are recomputed first, in one step each. The page is otherwise unchanged.
 ///
 /// # Errors
 ///

@@ -1,5 +1,5 @@
 -- Boxes that were computed, where a page's elements stay as they are.
-use Rattle.std.proofs.Common.{◌≡◌, ◌≤◌, ◌+◌, ℕ, List, Option, Some, None, option_map, refl, subst, sym, ap, ◌∙◌, arith}
+use Rattle.std.proofs.Common.{◌≡◌, ◌+◌, ℕ, List, Option, Some, None, option_map, refl, subst, sym, ap, ◌∙◌}
 use Rattle.std.specs.Prelude.{Bool, true, false, option_and_then, unwrap_or}
 use Rattle.script_model.specs.Syntax.{Operand}
 use Rattle.page_model.specs.World.{Screen, Container, Tree, World, InElement, InDocument}
@@ -12,7 +12,7 @@ use Rattle.page_model.specs.Steps.{Step, Did}
 use Rattle.kept_layout.specs.declared.slots.Slot.{Slot}
 use Rattle.page_boxes.specs.Around.{LeavesOthers}
 use Rattle.page_boxes.specs.Fresh.{IsFresh}
-use Rattle.page_boxes.specs.Kept.{FillsOnly, due_count}
+use Rattle.page_boxes.specs.Kept.{FillsOnly, LeavesUnboxed, due_count}
 use Rattle.page_boxes.specs.Pages.{seen_screen}
 use Rattle.page_layout.specs.Views.{LaidElements}
 use Rattle.page_state.specs.Boxes.{Computes, ComputesIn, found, document_meant}
@@ -32,19 +32,19 @@ module _ (page : Inside) (after : LaidElements) (same : after.elements ≡ page.
       (λ i. record (view_of page) { world = record (world_of page) { tree = (same i).tree }; kept = after.kept }) ∙ ap (λ (v : PageView). record v { kept = after.kept }) view_is
 
   -- what the computation leaves, seen from outside
-  pub computed : (now : PageView) → view_of page ≡ now → FillsOnly page.laid.kept after.kept → (from to : ℕ)
-      → to + due_count page.laid.elements.tree (seen_screen page.screen) after.kept ≤ from + due_count page.laid.elements.tree (seen_screen page.screen) page.laid.kept
+  pub computed : (now : PageView) → view_of page ≡ now → FillsOnly page.laid.kept after.kept → LeavesUnboxed page.laid.elements.tree (seen_screen page.screen) page.laid.kept after.kept → (from to : ℕ)
+      → to + due_count page.laid.elements.tree (seen_screen page.screen) after.kept ≡ from + due_count page.laid.elements.tree (seen_screen page.screen) page.laid.kept
       → Computes now.world now.kept after.kept from to
-  computed now view_is fills from to ticks = subst (λ (v : PageView). Computes v.world v.kept after.kept from to) view_is (record { fills = fills; ticks = ticks })
+  computed now view_is fills unboxed from to ticks = subst (λ (v : PageView). Computes v.world v.kept after.kept from to) view_is (record { fills = fills; unboxed = unboxed; ticks = ticks })
 
   -- the same of a computation in a document, found by the tree, and in those around it
-  pub computed_in : (now : PageView) → view_of page ≡ now → FillsOnly page.laid.kept after.kept → (from to : ℕ)
-      → to + due_count page.laid.elements.tree (seen_screen page.screen) after.kept ≤ from + due_count page.laid.elements.tree (seen_screen page.screen) page.laid.kept
+  pub computed_in : (now : PageView) → view_of page ≡ now → FillsOnly page.laid.kept after.kept → LeavesUnboxed page.laid.elements.tree (seen_screen page.screen) page.laid.kept after.kept → (from to : ℕ)
+      → to + due_count page.laid.elements.tree (seen_screen page.screen) after.kept ≡ from + due_count page.laid.elements.tree (seen_screen page.screen) page.laid.kept
       → (document : Tree → Option ℕ) → LeavesOthers page.laid.elements.tree (document (page.laid.elements.tree)) page.laid.kept after.kept
       → ComputesIn now.world (document (now.world.tree)) now.kept after.kept from to
-  computed_in now view_is fills from to ticks document others =
+  computed_in now view_is fills unboxed from to ticks document others =
       subst (λ (v : PageView). ComputesIn v.world (document (v.world.tree)) v.kept after.kept from to) view_is
-      (record { computes = record { fills = fills; ticks = ticks }; others = others })
+      (record { computes = record { fills = fills; unboxed = unboxed; ticks = ticks }; others = others })
 
 leaves_all : (tree : Tree) (document : Option ℕ) (slots : List Slot) → LeavesOthers tree document slots slots
 leaves_all tree None slots = λ n. refl
@@ -53,7 +53,7 @@ leaves_all tree (Some document) slots = λ n other. refl
 -- what is kept stays as it was
 pub computes_nothing : (world : World) (document : Option ℕ) (slots : List Slot) (steps : ℕ) → ComputesIn world document slots slots steps steps
 computes_nothing world document slots steps = record {
-  computes = record { fills = record { marks = λ n is. is; found = λ n is. is }; ticks = omega arith };
+  computes = record { fills = record { marks = λ n is. is; found = λ n is. is }; unboxed = λ n none. refl; ticks = refl };
   others = leaves_all (world.tree) document slots;
 }
 

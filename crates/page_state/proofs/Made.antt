@@ -1,6 +1,6 @@
 -- What is made has no box, so that the same boxes are due as before.
 use Rattle.std.proofs.Common.{◌≡◌, refl, sym, ap, subst, ◌∙◌, arith, tests, ◌≤◌, true≢false}
-use Rattle.std.specs.Prelude.{ℕ, zero, suc, ◌+◌, ◌<◌, ◌==◌, ◌||◌, nat_lt, Bool, true, false, List, [], ◌∷◌, length, Option, Some, None, IfSome}
+use Rattle.std.specs.Prelude.{ℕ, zero, suc, ◌+◌, ◌<◌, ◌==◌, ◌||◌, nat_lt, Bool, true, false, not, List, [], ◌∷◌, length, Option, Some, None, IfSome}
 use Rattle.std.specs.List.{AllByRecursion}
 use Rattle.layout_model.specs.Boxes.{Inputs}
 use Rattle.page_model.specs.World.{Screen, Element, Tree, World}
@@ -11,7 +11,13 @@ use Rattle.kept_layout.specs.declared.slots.Slot.{Slot}
 use Rattle.kept_layout.specs.Slots.{slot_in}
 use Rattle.kept_layout.specs.Due.{is_due_at, is_due, one_if, due_count}
 use Rattle.page_model.specs.PageBoxes.{inputs_of}
+use Rattle.page_model.specs.Steps.{Did}
 use Rattle.page_laws.specs.Making.{NamesMade, KeepsBoxes}
+use Rattle.page_tree.specs.Faults.{has_element_room, has_document_room, frame_room, IsFrameFault}
+use Rattle.page_tree.specs.Views.{PageElements}
+use Rattle.page_tree.specs.declared.faults.MakeFault.{MakeFault}
+use Rattle.page_tree.specs.declared.faults.MakeFault.TheVariants.{Limit, Memory}
+use Rattle.page_tree.proofs.Making.{frame_roomy}
 use Rattle.page_boxes.specs.Kept.{AreKept}
 use Rattle.page_layout.specs.Marks.{MarksNone}
 use Rattle.page_layout.specs.Views.{LaidElements}
@@ -20,6 +26,14 @@ use Rattle.page_state.specs.Views.{PageView}
 use Rattle.page_state.specs.Worlds.{view_of}
 use Rattle.page_state.specs.declared.page.Page.TheInside.{Inside}
 use Rattle.page_boxes.proofs.Rooted.{or_true}
+
+-- a frame for which there is room, and for which it was made, is never refused
+pub frame_there : (was now : PageElements) (full : Bool) → full ≡ not (has_element_room was) → full ≡ false
+    → (other : Bool) → other ≡ not (has_document_room was) → other ≡ false → now ≡ record was { ready = now.ready } → now.ready ≡ true
+    → (fault : MakeFault) → IsFrameFault now fault → ⊥
+frame_there was now full says is other tells so same ready (Limit kind) refused =
+    let roomy : frame_room now ≡ Did tt = ap frame_room same ∙ frame_roomy was full says is other tells so in cc (roomy, refused)
+frame_there was now full says is other tells so same ready Memory refused = true≢false (sym ready ∙ refused.1)
 
 -- what is named in a page was made ------------------------------------------------------------------------------------------------------
 

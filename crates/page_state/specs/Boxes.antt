@@ -8,7 +8,7 @@ use Rattle.page_model.specs.Operands.{Present, document_named, query_list_named,
 use Rattle.page_model.specs.Steps.{Step, Did, Threw, Met}
 use Rattle.kept_layout.specs.declared.slots.Slot.{Slot}
 use Rattle.page_boxes.specs.Around.{rests_on, LeavesOthers}
-use Rattle.page_boxes.specs.Kept.{FillsOnly, is_due, due_count as due_count_in}
+use Rattle.page_boxes.specs.Kept.{FillsOnly, LeavesUnboxed, is_due, due_count as due_count_in}
 use Rattle.page_layout.specs.Marks.{element_of, is_over, MarksOnly, MarksNone}
 use Rattle.page_state.specs.declared.answers.Effect.{Effect}
 use Rattle.page_state.specs.declared.answers.PageFault.{PageFault}
@@ -17,11 +17,12 @@ use Rattle.page_state.specs.declared.answers.PageFault.{PageFault}
 abbrev pub due_count : World → List Slot → ℕ
 due_count world kept = due_count_in world.tree world.viewports.screen kept
 
--- boxes are computed; the steps that this takes are at most the decrease in the number of due boxes. No mark is set, and no box
--- is dropped
+-- boxes are computed; the steps that this takes are the decrease in the number of due boxes. No mark is set, no box is dropped, and
+-- nothing changes for an element without a box
 pub record Computes (world : World) (old new : List Slot) (from to : ℕ) : Type 0 where
   pub fills : FillsOnly old new
-  pub ticks : to + due_count world new ≤ from + due_count world old
+  pub unboxed : LeavesUnboxed world.tree world.viewports.screen old new
+  pub ticks : to + due_count world new ≡ from + due_count world old
 
 -- the same for boxes of the given document and of the documents around it only, or for no box if no document is given
 pub record ComputesIn (world : World) (document : Option ℕ) (old new : List Slot) (from to : ℕ) : Type 0 where

@@ -15,7 +15,7 @@ ghost use Rattle.page_model.specs.Ticks.{time_set};
 ghost use Rattle.page_laws.specs.Ready.{IsReadyFor};
 ghost use Rattle.page_boxes.specs.Around.{rests_on, LeavesOthers};
 ghost use Rattle.page_boxes.specs.Fresh.{IsFreshIn, IsFreshAbove};
-ghost use Rattle.page_boxes.specs.Kept.{AreKept, FillsOnly, IsExact, is_due, due_count};
+ghost use Rattle.page_boxes.specs.Kept.{AreKept, FillsOnly, LeavesUnboxed, IsExact, is_due, due_count};
 ghost use Rattle.page_boxes.specs.Pages.{seen_size, seen_screen, IsScreen};
 ghost use Rattle.page_tree.specs.Items.{IsNatural};
 ghost use Rattle.script_syntax.specs.Allowed.{ActionAllowed, IsTime};
@@ -337,8 +337,9 @@ impl Page {
         self.screen.ratio
     }
 
-    /// Recomputes the boxes that are due: each box of the page is then up to date, and none is due. It takes at most one step
-    /// for each box that was due. The world, and whether a command was begun, are unchanged. Doesn't allocate.
+    /// Recomputes the boxes that are due: each box of the page is then up to date, and none is due. It takes one step for
+    /// each box that was due, and changes nothing for an element without a box. The world, and whether a command was begun,
+    /// are unchanged. Doesn't allocate.
     pub fn refresh_boxes<L: Ledger>(&mut self, steps: &mut Steps<L>)
         ensures same { self.new ≡ record self.old { kept = self.new.kept } }
         ensures done { (n : ℕ) → is_due self.new.world.tree self.new.world.viewports.screen self.new.kept n ≡ false }
@@ -435,8 +436,9 @@ pub(crate) fn viewport_now<L: Ledger>(
     ensures natural { IsNatural result }
     ensures same { laid.new.elements ≡ laid.old.elements }
     ensures others { LeavesOthers laid.old.elements.tree (rests_on laid.old.elements.tree (InDocument document.0)) laid.old.kept laid.new.kept }
+    ensures unboxed { LeavesUnboxed laid.old.elements.tree (seen_screen screen) laid.old.kept laid.new.kept }
     ensures fills { FillsOnly laid.old.kept laid.new.kept }
-    ensures ticks { steps.new + due_count laid.old.elements.tree (seen_screen screen) laid.new.kept ≤ steps.old + due_count laid.old.elements.tree (seen_screen screen) laid.old.kept }
+    ensures ticks { steps.new + due_count laid.old.elements.tree (seen_screen screen) laid.new.kept ≡ steps.old + due_count laid.old.elements.tree (seen_screen screen) laid.old.kept }
 {
     laid.refresh_for(screen, Container::Document(document), steps);
     viewport_of(laid.page(), laid.boxes(), screen, document)

@@ -24,7 +24,7 @@ returns-clause-gathered g c =
 
 pub returns-clause-boxes : goal.returns-clause-boxes
 returns-clause-boxes g c =
-    computed c.self.inside c.refresh.new.self c.refresh.ensures.same c.args.self.now c.self.view_is c.refresh.ensures.fills _ _ c.refresh.ensures.ticks
+    computed c.self.inside c.refresh.new.self c.refresh.ensures.same c.args.self.now c.self.view_is c.refresh.ensures.fills c.refresh.ensures.unboxed _ _ c.refresh.ensures.ticks
 
 pub returns-clause-ready : goal.returns-clause-ready
 returns-clause-ready g c = λ handlers.

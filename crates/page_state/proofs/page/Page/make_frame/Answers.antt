@@ -1,5 +1,5 @@
 -- A frame is made with its name, and the document in it with its own.
-use Rattle.std.proofs.Common.{◌+◌, ◌++◌, ◌∷◌, [], List, length, ap, refl, ◌∙◌}
+use Rattle.std.proofs.Common.{◌+◌, ◌++◌, ◌∷◌, [], List, length, ap, refl, sym, ◌∙◌}
 use Rattle.page_model.specs.World.{DocumentThing, ElementThing, Name, Tree}
 use Rattle.page_model.specs.Names.{named_thing}
 use Rattle.page_tree.specs.Views.{PageElements}
@@ -8,7 +8,7 @@ use Rattle.page_state.proofs.Findings.{roomier_then}
 use Rattle.page_names.proofs.Found.{still_free}
 use Rattle.page_model.specs.Edits.{with_frame}
 use Rattle.page_state.proofs.Inside.{prepared, framed_page}
-use Rattle.page_state.proofs.Made.{due_made, due_still}
+use Rattle.page_state.proofs.Made.{frame_there, due_made, due_still}
 use Rattle.page_state.proofs.page.Page.make_frame.Goals as goal
 
 pub invariant_of-self-in_err-add : goal.invariant_of-self-in_err-add
@@ -73,3 +73,17 @@ returns-clause-boxes c =
     due_made c.self.inside c.args.self.now c.self.view_is c.making_leaves_boxes.ensures.leaves c.make_frame.new.self (λ n. c.in_ok-_made.ensures.marks n ∙ c.in_ok-node.ensures.marks n)
     (with_frame document) (c.making_leaves_boxes.ensures.frames document)
     (ap (λ (it : PageElements). it.tree) c.in_ok-_made.ensures.made ∙ ap (λ (it : PageElements). with_frame document (it.tree)) c.in_ok-node.ensures.same)
+
+pub invariant_of-self-in_err-_made : goal.invariant_of-self-in_err-_made
+invariant_of-self-in_err-_made c =
+    absurd (frame_there c.page-page.result.now c.reserve.new.self.elements c.is_full.result c.is_full.ensures c.if-is_full.false
+    c.is_full_of_documents.result c.is_full_of_documents.ensures c.if-is_full_of_documents.false
+    (c.in_ok-node.ensures.same ∙ ap (λ (it : PageElements). record it { ready = c.reserve.new.self.elements.ready }) (sym c.page-page.ensures.value)) c.in_ok-node.ensures.ready
+    c.in_err-_made.field-0.0 c.in_err-_made.ensures.refused)
+
+pub returns-in_err-_made-clause-boxes : goal.returns-in_err-_made-clause-boxes
+returns-in_err-_made-clause-boxes c =
+    absurd (frame_there c.page-page.result.now c.reserve.new.self.elements c.is_full.result c.is_full.ensures c.if-is_full.false
+    c.is_full_of_documents.result c.is_full_of_documents.ensures c.if-is_full_of_documents.false
+    (c.in_ok-node.ensures.same ∙ ap (λ (it : PageElements). record it { ready = c.reserve.new.self.elements.ready }) (sym c.page-page.ensures.value)) c.in_ok-node.ensures.ready
+    c.in_err-_made.field-0.0 c.in_err-_made.ensures.refused)

@@ -1,10 +1,12 @@
 -- A query list is made with its name.
 use Rattle.std.proofs.Common.{◌≡◌, ◌<◌, ◌++◌, ◌∷◌, [], ℕ, List, length, ap, sym, subst, rules, arith, ◌∙◌}
 use Rattle.page_state.specs.Views.{PageView}
-use Rattle.page_model.specs.World.{QueryListThing, Name}
+use Rattle.page_model.specs.World.{QueryListThing, Name, InDocument}
+use Rattle.page_model.specs.Operands.{document_named}
 use Rattle.page_boxes.specs.Pages.{seen_size}
 use Rattle.page_state.specs.declared.queries.QueryList.{QueryList}
-use Rattle.page_state.proofs.Laid.{view_refreshed}
+use Rattle.page_boxes.specs.Around.{rests_on}
+use Rattle.page_state.proofs.Laid.{view_refreshed, computed_in, computes_found}
 use Rattle.page_state.proofs.Inside.{query_known, query_elements, query_asked}
 use Rattle.page_state.proofs.QueryLists.{asks_page}
 use Rattle.page_state.proofs.Doing.{keeps_since}
@@ -39,3 +41,19 @@ returns-clause-done g c present =
     ∙ ap (λ (n : ℕ). p.names.list ++ record { text = c.args.name; thing = QueryListThing n } ∷ []) number)
     c.in-Ok.ensures.items c.in_ok-query.ensures c.matches-matched.ensures c.viewport_now-viewport.ensures.value
     (record (c.args.self.now) { kept = c.viewport_now-viewport.new.laid.kept }) view_is present c.args.document c.in_ok-check_free.ensures.answer c.in_ok-document.ensures.answer (omega (arith, number, most, c.if-number-most.false)))
+
+pub returns-in_default-clause-boxes : goal.returns-in_default-clause-boxes
+returns-in_default-clause-boxes g c =
+    let world = c.args.self.now.world in
+    computes_found world c.args.self.now.kept c.viewport_now-viewport.new.laid.kept c.args.steps.now c.viewport_now-viewport.new.steps
+    (document_named (world.names) c.args.document) c.in_ok-document.document.0 (λ document. rests_on (world.tree) (InDocument document)) c.in_ok-document.ensures.answer
+    (computed_in c.self.inside c.viewport_now-viewport.new.laid c.viewport_now-viewport.ensures.same c.args.self.now c.self.view_is c.viewport_now-viewport.ensures.fills c.viewport_now-viewport.ensures.unboxed
+    _ _ c.viewport_now-viewport.ensures.ticks (λ tree. rests_on tree (InDocument c.in_ok-document.document.0)) c.viewport_now-viewport.ensures.others)
+
+pub returns-clause-boxes : goal.returns-clause-boxes
+returns-clause-boxes g c =
+    let world = c.args.self.now.world in
+    computes_found world c.args.self.now.kept c.viewport_now-viewport.new.laid.kept c.args.steps.now c.viewport_now-viewport.new.steps
+    (document_named (world.names) c.args.document) c.in_ok-document.document.0 (λ document. rests_on (world.tree) (InDocument document)) c.in_ok-document.ensures.answer
+    (computed_in c.self.inside c.viewport_now-viewport.new.laid c.viewport_now-viewport.ensures.same c.args.self.now c.self.view_is c.viewport_now-viewport.ensures.fills c.viewport_now-viewport.ensures.unboxed
+    _ _ c.viewport_now-viewport.ensures.ticks (λ tree. rests_on tree (InDocument c.in_ok-document.document.0)) c.viewport_now-viewport.ensures.others)

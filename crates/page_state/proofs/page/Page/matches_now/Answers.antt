@@ -34,5 +34,5 @@ returns-clause-boxes g c =
     subst (λ (v : PageView). query_list_at v.world.queries c.args.query ≡ seen_query_list list) c.self.view_is (list_here c.self.inside c.args.query list below c.index-list.ensures) in
     subst (λ (it : QueryList). ComputesIn c.args.self.now.world (rests_on (c.args.self.now.world.tree) (InDocument it.document)) c.args.self.now.kept c.viewport_now-viewport.new.laid.kept c.args.steps.now c.viewport_now-viewport.new.steps)
     (sym at)
-    (computed_in c.self.inside c.viewport_now-viewport.new.laid c.viewport_now-viewport.ensures.same c.args.self.now c.self.view_is c.viewport_now-viewport.ensures.fills
+    (computed_in c.self.inside c.viewport_now-viewport.new.laid c.viewport_now-viewport.ensures.same c.args.self.now c.self.view_is c.viewport_now-viewport.ensures.fills c.viewport_now-viewport.ensures.unboxed
     _ _ c.viewport_now-viewport.ensures.ticks (λ tree. rests_on tree (InDocument list.document.0)) c.viewport_now-viewport.ensures.others)

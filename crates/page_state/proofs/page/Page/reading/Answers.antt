@@ -26,7 +26,7 @@ returns-clause-boxes g c =
     ∙ ap (λ (tree : Tree). document_of_container tree (seen_container c.args.container)) (c.page.ensures.tree ∙ ap (λ (page : PageView). page.world.tree) c.self.view_is) in
     subst (λ (document : ℕ). ComputesIn c.args.self.now.world (Some document) c.args.self.now.kept c.refresh_in.new.self.kept c.args.steps.now c.refresh_in.new.steps)
     own
-    (computed_in c.self.inside c.refresh_in.new.self c.refresh_in.ensures.same c.args.self.now c.self.view_is c.refresh_in.ensures.fills _ _ c.refresh_in.ensures.ticks
+    (computed_in c.self.inside c.refresh_in.new.self c.refresh_in.ensures.same c.args.self.now c.self.view_is c.refresh_in.ensures.fills c.refresh_in.ensures.unboxed _ _ c.refresh_in.ensures.ticks
     (λ tree. Some c.document_of_container-document.result.0) c.refresh_in.ensures.left)
 
 pub read-shown-requires : goal.read-shown-requires

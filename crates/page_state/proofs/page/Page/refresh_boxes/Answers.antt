@@ -6,7 +6,7 @@ use Rattle.page_state.proofs.page.Page.refresh_boxes.Goals as goal
 
 pub returns-clause-boxes : goal.returns-clause-boxes
 returns-clause-boxes g c =
-    computed c.self.inside c.refresh.new.self c.refresh.ensures.same c.args.self.now c.self.view_is c.refresh.ensures.fills _ _ c.refresh.ensures.ticks
+    computed c.self.inside c.refresh.new.self c.refresh.ensures.same c.args.self.now c.self.view_is c.refresh.ensures.fills c.refresh.ensures.unboxed _ _ c.refresh.ensures.ticks
 
 pub returns-clause-same : goal.returns-clause-same
 returns-clause-same g c = search rules

@@ -64,7 +64,7 @@ returns-clause-noted g c =
 
 pub returns-clause-boxes : goal.returns-clause-boxes
 returns-clause-boxes g c =
-    computed_in c.self.inside c.viewport_now-size.new.laid c.viewport_now-size.ensures.same c.args.self.now c.self.view_is c.viewport_now-size.ensures.fills
+    computed_in c.self.inside c.viewport_now-size.new.laid c.viewport_now-size.ensures.same c.args.self.now c.self.view_is c.viewport_now-size.ensures.fills c.viewport_now-size.ensures.unboxed
     _ _ c.viewport_now-size.ensures.ticks (λ tree. rests_on tree (InDocument c.args.document.0)) c.viewport_now-size.ensures.others
 
 pub returns-clause-ready : goal.returns-clause-ready
