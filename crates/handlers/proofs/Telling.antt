@@ -79,7 +79,7 @@ module _ (before after : Option (List ℕ)) (f g : ℕ) where
       → Told {A = Unit {0}} (Err fault) before after f g (line ∷ lines)
   wrote_begun fault line lines wrote =
       wrote_run {A = Unit {0}} {state = tt {0}} (Err fault)
-      (run_same (sym (say_more line lines (tt {0}))) (cut_saying {A = Unit {0}} {flow = λ value. Next} fault (line ∷ []) (tt {0}) (say lines) wrote))
+      (run_same (sym (say_more line lines (tt {0}))) (cut_saying {A = Unit {0}} fault (line ∷ []) (tt {0}) (say lines) wrote))
 
   -- the line of a queue that was taken, and then those of its entries
   module _ (names : List Name) (observer : ℕ) (name text : List ℕ) (list : List CutEntry) (entries : List Entry) (named : name ≡ text) (seen : seen_entries list ≡ entries) where
