@@ -1,5 +1,5 @@
 -- A page once intersections were updated.
-use Rattle.std.proofs.Common.{◌≡◌, ℕ, Bool, true, false, cond, List, length, Result, Ok, Err, OnErr, refl, sym, ap, subst, ◌∙◌}
+use Rattle.std.proofs.Common.{◌≡◌, ℕ, Bool, true, false, cond, List, length, Result, Ok, Err, OnErr, inl, refl, sym, ap, subst, ◌∙◌}
 use Rattle.std.proofs.Math.Seq.{take-length}
 use Rattle.script_model.specs.Margins.{Margins}
 use Rattle.page_model.specs.World.{World, Notify}
@@ -69,6 +69,7 @@ pub stopped_last : (shown : Shown) (margins : List Margins) (tree : Tree) (docum
 stopped_last shown margins tree document time before now is = record {
   number = length before.made;
   place = 0;
+  rooted = inl refl;
   settled = is
       ∙ ap (λ (made : List IntersectionObserver). settling time (found_through shown margins) (watchers tree document (record before { made = made })) before) (sym (take-length before.made));
 }

@@ -1,6 +1,6 @@
 -- How commands and updates change what a page keeps of registrations. That it is kept, and when it is computed, is this project's
 -- own.
-use Rattle.std.specs.Prelude.{◌≡◌, ◌≤◌, ◌+◌, ◌⊎◌, ℕ, false, List, IsSome, IfSome}
+use Rattle.std.specs.Prelude.{◌≡◌, ◌<◌, ◌≤◌, ◌+◌, ◌⊎◌, ℕ, false, List, IsSome, IfSome}
 use Rattle.script_model.specs.Margins.{Margins}
 use Rattle.page_model.specs.World.{IntersectionObservers}
 use Rattle.page_model.specs.Intersections.{is_rooted_in}
@@ -9,8 +9,8 @@ use Rattle.element_tree.specs.declared.container.Container.{Container}
 use Rattle.clip_chain.specs.Worlds.{scene_of}
 use Rattle.intersection_observer.specs.Places.{IsStanding}
 use Rattle.intersection_observer.specs.Seen.{seen_finding}
-use Rattle.kept_clips.specs.Touches.{last_touch}
-use Rattle.kept_clips.specs.Held.{pair_at}
+use Rattle.kept_clips.specs.Touches.{last_touch, last_number}
+use Rattle.kept_clips.specs.Held.{pair_at, pair_of}
 use Rattle.kept_clips.specs.Seen.{sighting_of}
 use Rattle.kept_clips.specs.Looked.{IsLeft, ChangesByLooks}
 use Rattle.candidate_index.specs.declared.index.Kept.{Kept}
@@ -18,7 +18,7 @@ use Rattle.candidate_index.specs.Held.{kept_of}
 use Rattle.candidate_index.specs.Registrations.{place_of, observer_of, target_of}
 use Rattle.kept_findings.specs.Held.{HeldFindings}
 use Rattle.page_geometry.specs.Scenes.{telling_of}
-use Rattle.intersection_update.specs.Keeping.{HaveChains, IsLookedAt, IsSeen, IsOff, is_stale_in, KeepsComputed, IsRefused}
+use Rattle.intersection_update.specs.Keeping.{HaveChains, IsLookedAt, IsSeen, IsOff, is_stale_in, HasCurrentClip, KeepsComputed, IsRefused}
 use Rattle.intersection_update.specs.Steps.{most_steps}
 use Rattle.intersection_update.specs.Updating.{found_through}
 use Rattle.page_state.specs.Boxes.{due_count}
@@ -42,21 +42,25 @@ pub record IsFound (shown : Shown) (margins : List Margins) (it : IntersectionOb
 
 -- what an update of a document does to what is kept: a spot is touched exactly if it is seen to differ from when it was last
 -- seen, and only spots on the chains of the registrations that the update looks at are. What was found of a registration stays if
--- it isn't stale, and likewise if its observer's root belongs to another document. A registration of which a clip was computed
--- still has one
+-- it isn't stale. If its observer's root belongs to another document, so does its clip, and what was found of it. A registration
+-- of which a clip was computed still has one
 pub record Updates (shown : Shown) (margins : List Margins) (document : ℕ) (it : IntersectionObservers) (old new : HeldFindings) : Type 0 where
   pub touched : ChangesByLooks (scene_of shown) old.seen new.seen old.clips.touches new.clips.touches
   pub left : (spot : Container) → ((serial : ℕ) → IsLookedAt shown.tree document it serial → IsOff shown it spot serial) →
       IsLeft old.seen new.seen old.clips.touches new.clips.touches spot
   pub kept : (chained : HaveChains shown) (serial : ℕ) → is_stale_in shown margins chained it old.kept serial ≡ false → kept_of new.kept serial ≡ kept_of old.kept serial
   pub others : (serial : ℕ) → is_rooted_in shown.tree document (observer_of it serial).root ≡ false → kept_of new.kept serial ≡ kept_of old.kept serial
+  pub pairs : (serial : ℕ) → is_rooted_in shown.tree document (observer_of it serial).root ≡ false → pair_of new.clips serial ≡ pair_of old.clips serial
   pub computed : KeepsComputed old.clips new.clips
 
--- for each registration that an update of the document looks at, each spot on its chain was last seen as it is shown now, and
--- what is kept of it isn't stale
+-- for each registration that an update of the document looks at, each spot on its chain was last seen as it is shown now, what is
+-- kept of it isn't stale, and its clip is valid, if its chain leads to its root and the count of touches hasn't reached its last
+-- number
 pub record AreUpdated (shown : Shown) (margins : List Margins) (document : ℕ) (it : IntersectionObservers) (found : HeldFindings) : Type 0 where
   pub seen : (serial : ℕ) → IsLookedAt shown.tree document it serial → IsSeen shown it found.seen serial
   pub fresh : (chained : HaveChains shown) (serial : ℕ) → IsLookedAt shown.tree document it serial → is_stale_in shown margins chained it found.kept serial ≡ false
+  pub current : (chained : HaveChains shown) → found.clips.touches.count < last_number → (serial : ℕ) → IsLookedAt shown.tree document it serial →
+      HasCurrentClip shown chained it found.clips serial
 
 -- an update that was refused memory: at a registration, or only for the notify task, after all registrations were settled
 abbrev pub IsUnfinished : (shown : Shown) → List Margins → HaveChains shown → (document time : ℕ) → (before now : IntersectionObservers) → (old new : HeldFindings) → Type 0

@@ -80,7 +80,8 @@ impl Page {
     ///
     /// # Errors
     /// If an allocation fails. The registrations before the failed one are settled then, and all others, and all
-    /// queues that these don't add to, are unchanged; if only queueing the notify task fails, all are settled.
+    /// queues that these don't add to, are unchanged; if only queueing the notify task fails, all are settled. It takes no more
+    /// steps then than it may take otherwise.
     pub fn update_intersections<L: Ledger>(
         &mut self,
         document: DocumentId,
@@ -96,7 +97,7 @@ impl Page {
         ensures fresh { OnOk result (AreUpdated (shown_of self.old.world) self.old.world.scroll_margins document.0 self.new.world.intersection_observers self.new.found) }
         ensures refused { (chained : HaveChains (shown_of self.old.world)) →
             OnErr result (IsUnfinished (shown_of self.old.world) self.old.world.scroll_margins chained document.0 self.old.world.clock self.old.world.intersection_observers self.new.world.intersection_observers self.old.found self.new.found) }
-        ensures ticks { (chained : HaveChains (shown_of self.old.world)) → OnOk result (TakesAtMost document.0 self.old self.new chained steps.old steps.new) }
+        ensures ticks { (chained : HaveChains (shown_of self.old.world)) → TakesAtMost document.0 self.old self.new chained steps.old steps.new }
         ensures ready { (handlers : ℕ) → IsReadyFor handlers self.old.world → IsReadyFor handlers self.new.world }
     {
         self.laid.refresh(self.screen, steps);

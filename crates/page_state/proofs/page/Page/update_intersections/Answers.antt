@@ -73,25 +73,25 @@ pub returns-in_err-queued-clause-findings : goal.returns-in_err-queued-clause-fi
 returns-in_err-queued-clause-findings g c =
     at_world c.self.inside c.refresh.new.self c.refresh.ensures.same c.args.self.now c.self.view_is c.shown_at_once-shown.ensures c.as_slice.ensures.value
     (λ (s : Shown) (m : List Margins) (v : PageView). Updates s m c.args.document.0 v.world.intersection_observers v.found c.update.new.findings)
-    (record { touched = c.update.ensures.touched; left = c.update.ensures.left; kept = c.update.ensures.kept; others = c.update.ensures.others; computed = c.update.ensures.computed })
+    (record { touched = c.update.ensures.touched; left = c.update.ensures.left; kept = c.update.ensures.kept; others = c.update.ensures.others; pairs = c.update.ensures.pairs; computed = c.update.ensures.computed })
 
 pub returns-then-not-queued-clause-findings : goal.returns-then-not-queued-clause-findings
 returns-then-not-queued-clause-findings g c =
     at_world c.self.inside c.refresh.new.self c.refresh.ensures.same c.args.self.now c.self.view_is c.shown_at_once-shown.ensures c.as_slice.ensures.value
     (λ (s : Shown) (m : List Margins) (v : PageView). Updates s m c.args.document.0 v.world.intersection_observers v.found c.update.new.findings)
-    (record { touched = c.update.ensures.touched; left = c.update.ensures.left; kept = c.update.ensures.kept; others = c.update.ensures.others; computed = c.update.ensures.computed })
+    (record { touched = c.update.ensures.touched; left = c.update.ensures.left; kept = c.update.ensures.kept; others = c.update.ensures.others; pairs = c.update.ensures.pairs; computed = c.update.ensures.computed })
 
 pub returns-in_default-clause-findings : goal.returns-in_default-clause-findings
 returns-in_default-clause-findings g c =
     at_world c.self.inside c.refresh.new.self c.refresh.ensures.same c.args.self.now c.self.view_is c.shown_at_once-shown.ensures c.as_slice.ensures.value
     (λ (s : Shown) (m : List Margins) (v : PageView). Updates s m c.args.document.0 v.world.intersection_observers v.found c.update.new.findings)
-    (record { touched = c.update.ensures.touched; left = c.update.ensures.left; kept = c.update.ensures.kept; others = c.update.ensures.others; computed = c.update.ensures.computed })
+    (record { touched = c.update.ensures.touched; left = c.update.ensures.left; kept = c.update.ensures.kept; others = c.update.ensures.others; pairs = c.update.ensures.pairs; computed = c.update.ensures.computed })
 
 pub returns-clause-findings : goal.returns-clause-findings
 returns-clause-findings g c =
     at_world c.self.inside c.refresh.new.self c.refresh.ensures.same c.args.self.now c.self.view_is c.shown_at_once-shown.ensures c.as_slice.ensures.value
     (λ (s : Shown) (m : List Margins) (v : PageView). Updates s m c.args.document.0 v.world.intersection_observers v.found c.update.new.findings)
-    (record { touched = c.update.ensures.touched; left = c.update.ensures.left; kept = c.update.ensures.kept; others = c.update.ensures.others; computed = c.update.ensures.computed })
+    (record { touched = c.update.ensures.touched; left = c.update.ensures.left; kept = c.update.ensures.kept; others = c.update.ensures.others; pairs = c.update.ensures.pairs; computed = c.update.ensures.computed })
 
 pub returns-then-not-queued-clause-settled : goal.returns-then-not-queued-clause-settled
 returns-then-not-queued-clause-settled g c =
@@ -102,7 +102,7 @@ pub returns-then-not-queued-clause-fresh : goal.returns-then-not-queued-clause-f
 returns-then-not-queued-clause-fresh g c =
     at_world c.self.inside c.refresh.new.self c.refresh.ensures.same c.args.self.now c.self.view_is c.shown_at_once-shown.ensures c.as_slice.ensures.value
     (λ (s : Shown) (m : List Margins) (v : PageView). AreUpdated s m c.args.document.0 c.update.new.watchers.part c.update.new.findings)
-    (record { seen = c.in_ok-queued.ensures.seen; fresh = c.in_ok-queued.ensures.fresh })
+    (record { seen = c.in_ok-queued.ensures.seen; fresh = c.in_ok-queued.ensures.fresh; current = c.in_ok-queued.ensures.current })
 
 pub returns-then-not-queued-clause-ticks : goal.returns-then-not-queued-clause-ticks
 returns-then-not-queued-clause-ticks g c =
@@ -110,7 +110,7 @@ returns-then-not-queued-clause-ticks g c =
     (λ (s : Shown) (m : List Margins) (v : PageView). (chained : HaveChains s) →
     c.update.new.steps + due_count v.world c.refresh.new.self.kept
     ≤ c.args.steps.now + due_count v.world v.kept + most_steps s m chained c.args.document.0 (v.world.intersection_observers) v.found c.update.new.findings)
-    (λ chained. let registrations = c.in_ok-queued.ensures.ticks chained in let boxes = c.refresh.ensures.ticks in omega (arith, registrations, boxes))
+    (λ chained. let registrations = c.update.ensures.ticks chained in let boxes = c.refresh.ensures.ticks in omega (arith, registrations, boxes))
 
 pub returns-clause-settled : goal.returns-clause-settled
 returns-clause-settled g c =
@@ -121,7 +121,7 @@ pub returns-clause-fresh : goal.returns-clause-fresh
 returns-clause-fresh g c =
     at_world c.self.inside c.refresh.new.self c.refresh.ensures.same c.args.self.now c.self.view_is c.shown_at_once-shown.ensures c.as_slice.ensures.value
     (λ (s : Shown) (m : List Margins) (v : PageView). AreUpdated s m c.args.document.0 c.update.new.watchers.part c.update.new.findings)
-    (record { seen = c.in_ok-queued.ensures.seen; fresh = c.in_ok-queued.ensures.fresh })
+    (record { seen = c.in_ok-queued.ensures.seen; fresh = c.in_ok-queued.ensures.fresh; current = c.in_ok-queued.ensures.current })
 
 pub returns-clause-ticks : goal.returns-clause-ticks
 returns-clause-ticks g c =
@@ -129,7 +129,23 @@ returns-clause-ticks g c =
     (λ (s : Shown) (m : List Margins) (v : PageView). (chained : HaveChains s) →
     c.update.new.steps + due_count v.world c.refresh.new.self.kept
     ≤ c.args.steps.now + due_count v.world v.kept + most_steps s m chained c.args.document.0 (v.world.intersection_observers) v.found c.update.new.findings)
-    (λ chained. let registrations = c.in_ok-queued.ensures.ticks chained in let boxes = c.refresh.ensures.ticks in omega (arith, registrations, boxes))
+    (λ chained. let registrations = c.update.ensures.ticks chained in let boxes = c.refresh.ensures.ticks in omega (arith, registrations, boxes))
+
+pub returns-in_err-queued-clause-ticks : goal.returns-in_err-queued-clause-ticks
+returns-in_err-queued-clause-ticks g c =
+    at_world c.self.inside c.refresh.new.self c.refresh.ensures.same c.args.self.now c.self.view_is c.shown_at_once-shown.ensures c.as_slice.ensures.value
+    (λ (s : Shown) (m : List Margins) (v : PageView). (chained : HaveChains s) →
+    c.update.new.steps + due_count v.world c.refresh.new.self.kept
+    ≤ c.args.steps.now + due_count v.world v.kept + most_steps s m chained c.args.document.0 (v.world.intersection_observers) v.found c.update.new.findings)
+    (λ chained. let registrations = c.update.ensures.ticks chained in let boxes = c.refresh.ensures.ticks in omega (arith, registrations, boxes))
+
+pub returns-in_default-clause-ticks : goal.returns-in_default-clause-ticks
+returns-in_default-clause-ticks g c =
+    at_world c.self.inside c.refresh.new.self c.refresh.ensures.same c.args.self.now c.self.view_is c.shown_at_once-shown.ensures c.as_slice.ensures.value
+    (λ (s : Shown) (m : List Margins) (v : PageView). (chained : HaveChains s) →
+    c.update.new.steps + due_count v.world c.refresh.new.self.kept
+    ≤ c.args.steps.now + due_count v.world v.kept + most_steps s m chained c.args.document.0 (v.world.intersection_observers) v.found c.update.new.findings)
+    (λ chained. let registrations = c.update.ensures.ticks chained in let boxes = c.refresh.ensures.ticks in omega (arith, registrations, boxes))
 
 pub returns-in_err-queued-clause-refused : goal.returns-in_err-queued-clause-refused
 returns-in_err-queued-clause-refused g c = λ chained.
@@ -144,7 +160,7 @@ returns-in_default-clause-refused g c = λ chained.
     inr
     (at_world c.self.inside c.refresh.new.self c.refresh.ensures.same c.args.self.now c.self.view_is c.shown_at_once-shown.ensures c.as_slice.ensures.value
     (λ (s : Shown) (m : List Margins) (v : PageView). AreUpdated s m c.args.document.0 c.update.new.watchers.part c.update.new.findings)
-    (record { seen = c.in_ok-queued.ensures.seen; fresh = c.in_ok-queued.ensures.fresh }))
+    (record { seen = c.in_ok-queued.ensures.seen; fresh = c.in_ok-queued.ensures.fresh; current = c.in_ok-queued.ensures.current }))
 
 pub returns-then-not-queued-clause-ready : goal.returns-then-not-queued-clause-ready
 returns-then-not-queued-clause-ready g c = λ handlers.
