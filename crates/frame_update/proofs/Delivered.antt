@@ -19,7 +19,7 @@ use Rattle.depth_gather.specs.Entries.{seen_entry, IsLength, HasLengths}
 use Rattle.depth_gather.specs.declared.entries.ResizeEntry.{ResizeEntry}
 use Rattle.handlers.specs.Entries.{AreHanded}
 use Rattle.trace_runs.specs.declared.faults.RunFault.{RunFault}
-use Rattle.trace_runs.specs.declared.faults.RunFault.TheVariants.{Memory, WriteFault}
+use Rattle.trace_runs.specs.declared.faults.RunFault.TheVariants.{Memory}
 use Rattle.trace_runs.specs.Flows.{goes_on}
 use Rattle.trace_runs.specs.Runs.{Runs}
 use Rattle.trace_runs.proofs.Runs.{lifted_run}
@@ -77,16 +77,12 @@ are_handed world observer entries made targets lengths = record {
 }
 
 -- a callback and what is done behind it, at its end and at a limit
-pub turn_run : {A : Type 0} {change : World → World} (result : Result A RunFault) {now new : World} {before after : Option (List ℕ)} {f g : ℕ} {said : Said World}
+pub turn_run : {A : Type 0} (change : World → World) (result : Result A RunFault) {now new : World} {before after : Option (List ℕ)} {f g : ℕ} {said : Said World}
     → new ≡ change now → Runs goes_on now result before after f g said → Runs goes_on new result before after f g (lifted change said)
-turn_run {change = change} result {before = before} {after} {f} {g} {said} is run =
+turn_run change result {before = before} {after} {f} {g} {said} is run =
     subst (λ (world : World). Runs goes_on world result before after f g (lifted change said)) (sym is) (lifted_run change result run)
 
--- a callback that was broken off, with what was to be done behind it
-pub memory_lifted : {A : Type 0} {change : World → World} {now new : World} {before after : Option (List ℕ)} {f g : ℕ} {said : Said World}
+-- a callback for which no memory was left, with what was to be done behind it
+pub memory_lifted : {A : Type 0} (change : World → World) {now new : World} {before after : Option (List ℕ)} {f g : ℕ} {said : Said World}
     → Runs {A = A} goes_on now (Err Memory) before after f g said → Runs {A = A} goes_on new (Err Memory) before after f g (lifted change said)
-memory_lifted run = record { ended = tt; cut_off = run.cut_off }
-
-pub failure_lifted : {A : Type 0} {change : World → World} {now new : World} {before after : Option (List ℕ)} {f g : ℕ} {said : Said World}
-    → Runs {A = A} goes_on now (Err WriteFault) before after f g said → Runs {A = A} goes_on new (Err WriteFault) before after f g (lifted change said)
-failure_lifted run = record { ended = tt; cut_off = run.cut_off }
+memory_lifted change run = record { ended = tt; cut_off = run.cut_off }

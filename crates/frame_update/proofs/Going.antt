@@ -19,12 +19,12 @@ module _ {K L A : Type 0} {taken : K → Option (List ℕ)} {faults : K → ℕ}
   -- the fault is that of the step
   pub stopped : (result : Result A RunFault) (fault : RunFault) → IsErr result × IsErrAnd result (λ (it : RunFault). it ≡ fault) → new.script ≡ old.script
       → loans_of new ≡ loans_of old
-      → Runs goes_on (world_of new) (Err fault) (taken old.sink.now) (taken new.sink.now) (faults old.sink.now) (faults new.sink.now) said
+      → Runs {A = A} goes_on (world_of new) (Err fault) (taken old.sink.now) (taken new.sink.now) (faults old.sink.now) (faults new.sink.now) said
       → Goes taken faults old new result said
   stopped (Ok value) fault is script lent run = absurd (cc)
   stopped (Err it) fault is script lent run = record {
     says =
-        subst (λ (it : RunFault). Runs goes_on (world_of new) (Err it) (taken old.sink.now) (taken new.sink.now) (faults old.sink.now) (faults new.sink.now) said)
+        subst (λ (it : RunFault). Runs {A = A} goes_on (world_of new) (Err it) (taken old.sink.now) (taken new.sink.now) (faults old.sink.now) (faults new.sink.now) said)
         (sym is.1) run;
     ready = tt;
     script = script;
@@ -39,8 +39,8 @@ module _ {K L A : Type 0} {taken : K → Option (List ℕ)} {faults : K → ℕ}
 
   -- it was cut off with this fault
   pub cut_short : {fault : RunFault} → new.script ≡ old.script → loans_of new ≡ loans_of old
-      → Runs goes_on (world_of new) (Err fault) (taken old.sink.now) (taken new.sink.now) (faults old.sink.now) (faults new.sink.now) said
-      → Goes taken faults old new (Err fault) said
+      → Runs {A = A} goes_on (world_of new) (Err fault) (taken old.sink.now) (taken new.sink.now) (faults old.sink.now) (faults new.sink.now) said
+      → Goes {A = A} taken faults old new (Err fault) said
   cut_short script lent run = record { says = run; ready = tt; script = script; lent = lent }
 
   -- it was run by the last step

@@ -63,11 +63,11 @@ unfolding caught caught_flow
 caught-throw line kind old next step is = sym (ap caught (answered_threw line old next is))
 
 left-run : {A : Type 0} {state : World} (fault : RunFault) (result : Result A RunFault) (before after : Option (List ℕ)) (f g : ℕ) (said : Said World)
-    → IsLeft fault result before after f g → Runs goes_on state (Err fault) before before f f said → Runs goes_on state result before after f g said
-left-run {state = state} fault result before after f g said left run =
+    → IsLeft fault result before after f g → Runs {A = A} goes_on state (Err fault) before before f f said → Runs goes_on state result before after f g said
+left-run {A = A} {state} fault result before after f g said left run =
     subst (λ (it : Result _ RunFault). Runs goes_on state it before after f g said) (sym left.0)
-    (subst (λ (now : Option (List ℕ)). Runs goes_on state (Err fault) before now f g said) (sym left.1)
-    (subst (λ (now : ℕ). Runs goes_on state (Err fault) before before f now said) (sym left.2) run))
+    (subst (λ (now : Option (List ℕ)). Runs {A = A} goes_on state (Err fault) before now f g said) (sym left.1)
+    (subst (λ (now : ℕ). Runs {A = A} goes_on state (Err fault) before before f now said) (sym left.2) run))
 
 -- a call that was refused
 pub refused_run : {A : Type 0} {version : Version} (fault : PageFault) (line : ℕ) (result : Result A RunFault) (before after : Option (List ℕ)) (f g : ℕ) (old new : World) (step : Step World)
