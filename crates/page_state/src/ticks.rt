@@ -13,7 +13,7 @@ ghost use Rattle.page_model.specs.World.{Notify, InDocument};
 ghost use Rattle.page_model.specs.Viewports.{noted_size, with_noted, differs_from};
 ghost use Rattle.page_laws.specs.Ready.{IsReadyFor, with_first};
 ghost use Rattle.page_boxes.specs.Around.{rests_on};
-ghost use Rattle.page_boxes.specs.Kept.{FillsOnly};
+ghost use Rattle.page_boxes.specs.Kept.{FillsOnly, LeavesUnboxed};
 ghost use Rattle.intersection_update.specs.Keeping.{HaveChains};
 ghost use Rattle.intersection_update.specs.Updating.{AreSettled, IsStopped};
 ghost use Rattle.intersection_update.specs.Watching.{AreWritten, watcher_numbers};
@@ -92,6 +92,7 @@ impl Page {
         ensures rest { OnErr result (self.new ≡ record self.old { world = record (self.old.world) { intersection_observers = self.new.world.intersection_observers }; kept = self.new.kept; found = self.new.found }) }
         ensures stopped { OnErr result (IsStopped (shown_of self.old.world) self.old.world.scroll_margins self.old.world.tree document.0 self.old.world.clock self.old.world.intersection_observers self.new.world.intersection_observers) }
         ensures boxes { FillsOnly self.old.kept self.new.kept }
+        ensures unboxed { LeavesUnboxed self.old.world.tree self.old.world.viewports.screen self.old.kept self.new.kept }
         ensures settled { OnOk result (AreSettled (shown_of self.old.world) self.old.world.scroll_margins document.0 self.old.world.intersection_observers self.new.world.intersection_observers) }
         ensures findings { Updates (shown_of self.old.world) self.old.world.scroll_margins document.0 self.old.world.intersection_observers self.old.found self.new.found }
         ensures fresh { OnOk result (AreUpdated (shown_of self.old.world) self.old.world.scroll_margins document.0 self.new.world.intersection_observers self.new.found) }

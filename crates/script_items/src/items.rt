@@ -40,8 +40,8 @@ fn run_caught<K: Sink, L: Ledger>(
     Ok(())
 }
 
-/// Runs one item of a script, and writes its lines as they are produced. An exception ends only the item. The errors are
-/// those of `play`.
+/// Runs one item of a script, and writes its lines as they are produced. An exception ends only the item. With `Ok` the page
+/// is ready for a further item of the script (`IsReady`). The errors are those of `play`.
 pub fn run_item<K: Sink, L: Ledger>(
     alloc: Global,
     page: &mut Page,
@@ -63,7 +63,8 @@ pub fn run_item<K: Sink, L: Ledger>(
     }
 }
 
-/// Runs the items of a script, and writes their lines as they are produced.
+/// Runs the items of a script, and writes their lines as they are produced. With `Ok` the page is ready for further items of
+/// the script (`IsReady`).
 ///
 /// # Errors
 /// - `Limit` only if a limit is met, and always then unless an allocation or the sink fails first; every line up to its own
@@ -78,7 +79,8 @@ pub fn play<K: Sink, L: Ledger>(
     steps: &mut Steps<L>,
 ) -> Result<(), RunFault>
     requires ready { IsReady script.now.items page.old.world }
-    ensures { Runs goes_on page.new.world result (K.taken sink.old) (K.taken sink.new) (K.faults sink.old) (K.faults sink.new) (run_items script.now.items page.old.world) }
+    ensures says { Runs goes_on page.new.world result (K.taken sink.old) (K.taken sink.new) (K.faults sink.old) (K.faults sink.new) (run_items script.now.items page.old.world) }
+    ensures ready { IfOk result (λ _. IsReady script.now.items page.new.world) }
 {
     for item in script.items() {
         run_item(alloc, page, script, item, sink, steps)?;

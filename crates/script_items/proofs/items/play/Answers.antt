@@ -22,13 +22,13 @@ loop-item-preserved g c =
       ready = c.in_ok-run_item.ensures.ready;
     }
 
-pub returns-in_err-run_item : goal.returns-in_err-run_item
-returns-in_err-run_item g c =
+pub returns-in_err-run_item-clause-says : goal.returns-in_err-run_item-clause-says
+returns-in_err-run_item-clause-says g c =
     stopped_run c.from_residual.result c.in_err-run_item.field-0.0 c.from_residual.ensures
     (end_cut c.in_err-run_item.field-0.0 _
     (rest_same (each_more _ c.items-item-items.result.now c.loop-item.item-index _ _ (omega arith) c.item-item.is) c.loop-item.invariant.following)
     c.in_err-run_item.ensures.says)
 
-pub returns : goal.returns
-returns g c =
+pub returns-clause-says : goal.returns-clause-says
+returns-clause-says g c =
     done refl (rest_same (each_none _ c.items-item-items.result.now c.loop-item.item-index _ (omega arith)) c.loop-item.invariant.following)

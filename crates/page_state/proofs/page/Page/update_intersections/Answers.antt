@@ -9,6 +9,7 @@ use Rattle.intersection_update.specs.Keeping.{HaveChains, IsRefused}
 use Rattle.intersection_update.specs.Steps.{most_steps}
 use Rattle.intersection_update.specs.Updating.{updated, has_news, AreSettled, IsStopped}
 use Rattle.event_tables.specs.Tasks.{WaitingTasks}
+use Rattle.page_boxes.specs.Kept.{LeavesUnboxed}
 use Rattle.page_state.specs.Boxes.{due_count}
 use Rattle.page_state.specs.Findings.{Updates, AreUpdated}
 use Rattle.page_state.specs.Views.{PageView}
@@ -187,3 +188,19 @@ pub returns-in_default-clause-ready : goal.returns-in_default-clause-ready
 returns-in_default-clause-ready g c = λ handlers.
     ready_by handlers c.args.self.now.world (returns-in_default-clause-rest g c)
     (update_stopped _ _ _ _ _ c.args.self.now.world _ (returns-in_default-clause-stopped g c))
+
+pub returns-then-not-queued-clause-unboxed : goal.returns-then-not-queued-clause-unboxed
+returns-then-not-queued-clause-unboxed g c =
+    subst (λ (v : PageView). LeavesUnboxed v.world.tree v.world.viewports.screen v.kept c.refresh.new.self.kept) c.self.view_is c.refresh.ensures.unboxed
+
+pub returns-in_err-queued-clause-unboxed : goal.returns-in_err-queued-clause-unboxed
+returns-in_err-queued-clause-unboxed g c =
+    subst (λ (v : PageView). LeavesUnboxed v.world.tree v.world.viewports.screen v.kept c.refresh.new.self.kept) c.self.view_is c.refresh.ensures.unboxed
+
+pub returns-in_default-clause-unboxed : goal.returns-in_default-clause-unboxed
+returns-in_default-clause-unboxed g c =
+    subst (λ (v : PageView). LeavesUnboxed v.world.tree v.world.viewports.screen v.kept c.refresh.new.self.kept) c.self.view_is c.refresh.ensures.unboxed
+
+pub returns-clause-unboxed : goal.returns-clause-unboxed
+returns-clause-unboxed g c =
+    subst (λ (v : PageView). LeavesUnboxed v.world.tree v.world.viewports.screen v.kept c.refresh.new.self.kept) c.self.view_is c.refresh.ensures.unboxed
