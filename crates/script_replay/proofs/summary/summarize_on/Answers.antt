@@ -13,13 +13,13 @@ pub returns-in-Ok-clause-tells : goal.returns-in-Ok-clause-tells
 returns-in-Ok-clause-tells g c =
     rw c.status_of.ensures.status
     (done_summary _ _ c.requires.opening c.new-gathered.result.taken _ _ _ c.write_summary.result _ _ _ _ (ap (λ (sink : Gathered). sink.taken) c.new-gathered.ensures)
-    c.in-Ok.ensures.ended (λ lines it. c.write_summary.ensures.wrote lines (subst (λ (text : List ℕ). IsTrace text lines) (sym c.taken.ensures) it)))
+    c.in-Ok.ensures.says.ended (λ lines it. c.write_summary.ensures.wrote lines (subst (λ (text : List ℕ). IsTrace text lines) (sym c.taken.ensures) it)))
 
 pub returns-in-Ok-clause-world : goal.returns-in-Ok-clause-world
-returns-in-Ok-clause-world g c = λ done. done_world _ _ c.requires.opening _ _ c.in-Ok.ensures.ended
+returns-in-Ok-clause-world g c = λ done. done_world _ _ c.requires.opening _ _ c.in-Ok.ensures.says.ended
 
 pub returns-in-Err-Limit-clause-tells : goal.returns-in-Err-Limit-clause-tells
 returns-in-Err-Limit-clause-tells g c =
     let cut = rw c.in-Err-Limit.field-0-is at c.in-Err-Limit.ensures in
-    limit_summary _ _ c.requires.opening c.new-gathered.result.taken _ _ _ _ _ _ c.summarize_to_limit.result _ _ _ _ (ap (λ (sink : Gathered). sink.taken) c.new-gathered.ensures) cut.cut_off
+    limit_summary _ _ c.requires.opening c.new-gathered.result.taken _ _ _ _ _ _ c.summarize_to_limit.result _ _ _ _ (ap (λ (sink : Gathered). sink.taken) c.new-gathered.ensures) cut.says.cut_off
     c.summarize_to_limit.ensures.tells
