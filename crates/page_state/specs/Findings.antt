@@ -42,8 +42,8 @@ pub record IsFound (shown : Shown) (margins : List Margins) (it : IntersectionOb
 
 -- what an update of a document does to what is kept: a spot is touched exactly if it is seen to differ from when it was last
 -- seen, and only spots on the chains of the registrations that the update looks at are. What was found of a registration stays if
--- it isn't stale. If its observer's root belongs to another document, so does its clip, and what was found of it. A registration
--- of which a clip was computed still has one
+-- it isn't stale. What was found of a registration whose observer's root belongs to another document stays, and so does its clip. A
+-- registration of which a clip was computed still has one
 pub record Updates (shown : Shown) (margins : List Margins) (document : ℕ) (it : IntersectionObservers) (old new : HeldFindings) : Type 0 where
   pub touched : ChangesByLooks (scene_of shown) old.seen new.seen old.clips.touches new.clips.touches
   pub left : (spot : Container) → ((serial : ℕ) → IsLookedAt shown.tree document it serial → IsOff shown it spot serial) →

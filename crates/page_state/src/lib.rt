@@ -7,6 +7,7 @@ mod by_document;
 mod callbacks;
 mod commands;
 mod conditions;
+mod dropping;
 mod first;
 mod intersections;
 mod labels;

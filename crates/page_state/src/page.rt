@@ -30,8 +30,8 @@ ghost use Rattle.page_names.specs.Things.{present_of, IsSubject};
 
 use crate::answers::{Effect, PageFault};
 use crate::by_document::ByDocument;
-use crate::first;
 use crate::queries::QueryList;
+use crate::{dropping, first};
 use element_tree::{Container, DocumentId, NodeId};
 use event_tables::{FrameCallbacks, Listeners, Tasks, Timers};
 use intersection_observer::{WatcherId, Watchers};
@@ -70,7 +70,6 @@ const FIRST_SCREEN: Screen = Screen {
 ///
 /// Every number in a page refers to something that the page created. Boxes are cached from one reading to the next
 /// (`page_layout`): a reading first recomputes those that are due.
-#[derive(Drop)]
 pub struct Page {
     pub(crate) names: Names,
     // The elements and documents with their cached boxes.
@@ -97,6 +96,36 @@ pub struct Page {
     pub(crate) clock: u64,
     pub(crate) count: u32,
     pub(crate) begun: bool,
+}
+
+// Written by hand since a derived `drop` is proved anew, field by field, in each function that drops a page.
+impl Drop for Page {
+    fn drop(self) {
+        let Page {
+            names,
+            laid,
+            observers,
+            watchers,
+            scroll_margins,
+            findings,
+            notifying: _,
+            scrolls,
+            queries: _,
+            listeners,
+            frame_callbacks,
+            timers,
+            tasks,
+            screen: _,
+            noted: _,
+            version: _,
+            clock: _,
+            count: _,
+            begun: _,
+        } = self;
+        dropping::drop_elements(names, laid, scrolls);
+        dropping::drop_observers(observers, watchers, scroll_margins, findings);
+        dropping::drop_tables(listeners, frame_callbacks, timers, tasks);
+    }
 }
 
 impl Model for Page {

@@ -39,5 +39,5 @@ fn main(rt: HostRuntime) -> ExitCode {
         &mut source,
         &mut sink,
     );
-    ExitCode::from(report.into_status().code())
+    ExitCode::from(report.status.code())
 }

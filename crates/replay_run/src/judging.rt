@@ -27,7 +27,7 @@ fn trace_of<L: Ledger>(
 {
     let mut gathered = GatherSink::new(alloc);
     let report = perform_on_text(alloc, Job::Replay, script, &mut gathered, steps);
-    if report.into_status().is_whole() {
+    if report.status.is_whole() {
         Ok(gathered)
     } else {
         // A write to memory fails only if an allocation fails.

@@ -8,7 +8,6 @@ use element_tree::DocumentId;
 use event_tables::HandlerId;
 use handlers::{Entries, run_command, run_handler};
 use page_state::Page;
-use replay_run::{Report, Status};
 use script_syntax::{Command, Item, Script};
 use std::alloc::{AllocError, Global};
 use std::marker::Brand;
@@ -107,13 +106,7 @@ fn run_alone(
     let Ok(mut page) = Page::new(alloc, script.version()) else {
         return Err(RunFault::Memory);
     };
-    let ran = run_text::<Brand>(Blank::new(1), alloc, &mut page, script, document, sink);
-    let report = Report {
-        status: Status::Done,
-        page: Some(page),
-    };
-    report.into_status();
-    ran
+    run_text::<Brand>(Blank::new(1), alloc, &mut page, script, document, sink)
 }
 
 // Runs a text over a sink that takes 64 bytes a call, of which the one of this number fails, and compares.

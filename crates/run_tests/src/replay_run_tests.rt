@@ -69,7 +69,7 @@ pub(crate) fn replayed(
     let report = run_uncounted::<_, _, Brand>(Blank::new(1), alloc, words, &mut source, &mut sink);
     Ok(Answer {
         has_page: report.page.is_some(),
-        status: report.into_status(),
+        status: report.status,
         sink,
     })
 }

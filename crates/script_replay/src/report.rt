@@ -37,12 +37,4 @@ impl Report {
             _ => Report { status, page: None },
         }
     }
-
-    /// Returns the status, and drops the page. Other code calls this rather than drop a page itself: such a drop takes long
-    /// to prove.
-    pub fn into_status(self) -> Status
-        ensures { result ≡ self.status }
-    {
-        self.status
-    }
 }

@@ -14,7 +14,6 @@ ghost use Rattle.script_replay.specs.ScriptReplies.{sight_reply, told_text};
 ghost use Rattle.script_replay.specs.Sights.{hit_text, hits_text, sight_text, ticks_text};
 ghost use Rattle.script_items.specs.Stops.{tick_count};
 
-use crate::report::Report;
 use box_inspector::{BoxLine, inspect, write_box};
 use element_tree::NodeId;
 use event_tables::EventTarget;
@@ -196,10 +195,7 @@ pub fn write_sight<K: Sink, L: Ledger>(
     ensures { Tells result (sight_reply sight number script.now) (K.taken sink.old) (K.taken sink.new) (K.faults sink.old) (K.faults sink.new) }
 {
     match Page::new(alloc, script.version()) {
-        Ok(mut page) => {
-            let status = write_sight_on(alloc, &mut page, sight, number, script, sink, steps);
-            Report::with_page(status, page).into_status()
-        }
+        Ok(mut page) => write_sight_on(alloc, &mut page, sight, number, script, sink, steps),
         Err(_) => Status::NoMemory,
     }
 }
