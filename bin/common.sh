@@ -14,27 +14,32 @@ require_kit() {
   fi
 }
 
-# Prints the rows of crates.txt for the program's crate and the crates that it depends on.
+# Prints the rows of crates.txt for these crates, or for the program's, and the crates that they depend on.
 rows() {
-  awk '
+  awk -v wanted="${*:-replay}" '
     function visit(name,    words, count, at) {
       if (seen[name]++) return
       count = split(below[name], words, " ")
       for (at = 1; at <= count; at++) if (words[at] in below) visit(words[at])
-      print name ":" below[name]
+      print name kind[name] ":" below[name]
     }
     { sub(/#.*/, "") }
-    /:/ { name = $1; sub(/:.*/, "", name); list = $0; sub(/^[^:]*:/, "", list); below[name] = list }
-    END { visit("replay") }
+    /:/ {
+      name = $1; sub(/:.*/, "", name); list = $0; sub(/^[^:]*:/, "", list); below[name] = list
+      if ($0 ~ /^[a-z0-9_]+ +staticlib *:/) kind[name] = " staticlib"
+    }
+    END { count = split(wanted, roots, " "); for (root = 1; root <= count; root++) visit(roots[root]) }
   ' "$top/crates.txt"
 }
 
-# Whether the program is up to date: no file that it is built from is newer.
+# Whether what was built is up to date: no file of these crates, or of the program's and those below it, is newer.
 is_up_to_date() {
-  local places=("$top/crates.txt") name
-  for name in $(rows | cut -d: -f1); do
+  local built="${1:-$program}" places=("$top/crates.txt") name
+  shift
+  for name in $(rows "$@" | cut -d: -f1 | cut -d' ' -f1); do
     places+=("$top/crates/$name")
   done
+  [ "$*" != replay_c ] || places+=("$top/bindings/wasm" "$top/include" "$top/bin/library.sh")
   [ -z "$(find "${places[@]}" -path '*/out' -prune -o \
-    \( -name '*.rt' -o -name '*.antt' -o -name crates.txt \) -newer "$program" -print -quit)" ]
+    \( -name '*.rt' -o -name '*.antt' -o -name crates.txt -o -name '*.[ch]' -o -name library.sh \) -newer "$built" -print -quit)" ]
 }

@@ -12,13 +12,14 @@ import tempfile
 import threading
 import time
 
-from scripts import commands_of, read_script
+from scripts import commands_of, limit_of, read_script
 
 HERE = os.path.dirname(os.path.abspath(__file__))
 FIRST_SIZE = (800, 600)
 WIDEST = 10000000     # the most pixels of a viewport's side
 LONGEST = 180         # the most seconds for an answer of a running browser
 STARTING = 60         # the most seconds for its start
+LEAST_RATIO = 0.5     # the least ratio of Chromium's screen
 RATIO_SECONDS = 3     # the most seconds for a new ratio, which a browser may not support
 NO_RATIO = "a ratio that changes is only shown by 'tools/browser/run' in chromium and firefox-stepped"
 NO_FRAME = ("a viewport that changes, with an implicit root and frames or scroll margins, is only shown by 'tools/browser/run' in chromium "
@@ -41,10 +42,11 @@ def part(name):
 
 
 def whole_size(args):
-    size = [float(word[:-2]) for word in args]
-    if any(number != int(number) or not 0 < number <= WIDEST for number in size):
-        raise NotShown('a viewport that is not of whole pixels from 1 to %d' % WIDEST)
-    return [int(number) for number in size]
+    """The size of a window in whole pixels, as each engine rounds that of a frame."""
+    size = [int(float(word[:-2]) + 0.5) for word in args]
+    if any(not 0 < number <= WIDEST for number in size):
+        raise NotShown('a viewport with a side of less than half a pixel or more than %d' % WIDEST)
+    return size
 
 
 def ratio_of(args):
@@ -52,6 +54,14 @@ def ratio_of(args):
     if not ratio:
         raise NotShown('a ratio of 0%')
     return ratio
+
+
+def plan_of(text):
+    """What `planned` says of a script's text; raises NotShown if the rules end its run at a limit, which a browser doesn't have."""
+    plan, limit = planned(read_script(text)), limit_of(text)
+    if limit:
+        raise NotShown('a script that meets the limit `%s`' % limit)
+    return plan
 
 
 def planned(script):
@@ -180,7 +190,8 @@ class Pipe:
         return [answers[number] for number in methods]
 
     def attach(self, **more):
-        target = self.ask('Target.createTarget', url='about:blank', width=FIRST_SIZE[0], height=FIRST_SIZE[1], **more)['targetId']
+        # Only a window may have a size: without one the whole browser refuses it, and the headless shell alone takes it.
+        target = self.ask('Target.createTarget', url='about:blank', width=FIRST_SIZE[0], height=FIRST_SIZE[1], newWindow=True, **more)['targetId']
         self.session = self.ask('Target.attachToTarget', targetId=target, flatten=True)['sessionId']
         self.ask('Page.enable')
 
@@ -195,6 +206,8 @@ class Pipe:
             self.screen = self.ask('Emulation.getScreenInfos')['screenInfos'][0]
             self.scaled = self.screen['devicePixelRatio']
         if self.scaled != ratio:
+            if ratio < LEAST_RATIO:
+                raise NotShown('a ratio of %g%%, as this browser has none below %g%%' % (100 * ratio, 100 * LEAST_RATIO))
             self.ask('Emulation.updateScreen', screenId=self.screen['id'], devicePixelRatio=ratio)
             self.scaled = ratio
 
@@ -239,7 +252,7 @@ class Stepped:
 
     def trace(self, text):
         """The lines of the trace; raises NotShown if the page can't show all of the script."""
-        plan = planned(read_script(text))
+        plan = plan_of(text)
         self.blank(plan['size'], plan['ratio'])
         wants = self.begin(plan['script'])
         while wants[0] != 'end':
@@ -413,7 +426,7 @@ class Live:
             self.held.pop().close()
 
     def trace(self, text):
-        plan = planned(read_script(text))
+        plan = plan_of(text)
         if not plan['steady']:
             raise NotShown(NO_RATIO)
         self.scale(plan['ratio'])

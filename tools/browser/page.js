@@ -40,6 +40,8 @@ function observersRun(script, window, setting) {
   const intersectLine = (o, e) => `intersect ${o.name} ${nameOf(e.target)} ${clock} ${e.isIntersecting ? 'yes' : 'no'} ${share(e)}` +
     ` root ${rect(e.rootBounds)} box ${rect(e.boundingClientRect)} cut ${rect(e.intersectionRect)}`;
   const nameOf = thing => thing.observersName || '?';
+  // A window has whole pixels, as an engine rounds a frame's size.
+  const wholePixels = word => Math.floor(parseFloat(word) + 0.5);
 
   // ---- names ----
   function named(word, ...kinds) {
@@ -59,19 +61,37 @@ function observersRun(script, window, setting) {
     if (!script.handlers[name]) throw new Thrown('ReferenceError');
     return script.handlers[name];
   }
-  function shown(doc) {
-    if (doc.state === 'fresh') throw new NotShown('something made in the document of a frame that stood nowhere yet');
+  function shown(doc, what) {
+    if (doc.state === 'fresh') throw new NotShown(`${what} of the document of a frame that is in no tree yet, which has no window`);
     return doc;
+  }
+  // What needs a window waits until the document has one.
+  function later(doc, run) {
+    if (doc.state === 'fresh') doc.waiting.push(run);
+    else run();
   }
   const active = doc => doc.state === 'active';
 
   // ---- documents ----
+  // Makes callbacks in the document's realm, like those of its own scripts, since a browser uses the realm's document. It is made by a
+  // script element, since a page's policy may forbid `Function`.
+  function makerIn(document) {
+    const script = document.createElement('script'), inner = document.defaultView;
+    script.textContent = 'observersMaker = run => (...told) => run(...told);';
+    (document.documentElement || document).appendChild(script);
+    script.remove();
+    const made = inner.observersMaker;
+    delete inner.observersMaker;
+    return made;
+  }
   function opened(doc, document) {
+    const before = doc.document;
     doc.state = 'active';
     doc.document = document;
     doc.window = document.defaultView;
-    // Callbacks are created in the document's realm, like those of its own scripts, since a browser uses the realm's document.
-    doc.made = doc.window.Function('run', 'return function (...told) { return run(...told); };');
+    // A window whose frame is gone no longer gives constructors that weren't looked up before.
+    ({ ResizeObserver: doc.ResizeObserver, IntersectionObserver: doc.IntersectionObserver } = doc.window);
+    doc.made = makerIn(document);
     document.observersName = doc.name;
     // The page of a new frame is in quirks mode, where a root element fills the viewport, unless it has a document type.
     if (document.compatMode !== 'CSS1Compat') {
@@ -83,6 +103,20 @@ function observersRun(script, window, setting) {
     for (const kind of ['resize', 'scroll', 'error']) {
       doc.window.addEventListener(kind, event => fired(doc, event), true);
     }
+    if (before) filled(doc, before);
+  }
+  // Until a frame is in a tree, the elements of its document are in one without a window. Here they move to the frame's page.
+  function filled(doc, before) {
+    for (const made of names.values()) {
+      if (made.what !== 'node' || made.element.ownerDocument !== before || made.element.parentNode && made.element.parentNode !== before) continue;
+      const isRoot = made.element.parentNode === before;
+      doc.document.adoptNode(made.element);
+      if (isRoot) {
+        doc.document.appendChild(made.element);
+        space(made);
+      }
+    }
+    for (const run of doc.waiting.splice(0)) run();
   }
   function fired(doc, event) {
     noteUpdate();
@@ -97,12 +131,17 @@ function observersRun(script, window, setting) {
     return kept ? 'ResizeObserver loop completed with undelivered notifications.' : event.message;
   }
   function settleFrames() {
+    let isOpened = false;
     for (const doc of docs) {
       if (!doc.frame) continue;
       const held = doc.frame.element.isConnected ? doc.frame.element.contentDocument : null;
-      if (doc.state === 'fresh' && held) opened(doc, held);
-      else if (doc.state === 'active' && held !== doc.document) doc.state = 'dead';
+      if (doc.state === 'fresh' && held) {
+        opened(doc, held);
+        isOpened = true;
+      } else if (doc.state === 'active' && held !== doc.document) doc.state = 'dead';
     }
+    // A document that is filled may contain frames.
+    if (isOpened) settleFrames();
   }
 
   // ---- the tree ----
@@ -128,11 +167,20 @@ function observersRun(script, window, setting) {
   // WebKit otherwise doesn't show one that is inserted and styled at once.
   function space(made) {
     const parent = made.element.parentNode;
+    hideIn(made, parent);
     if (parent && parent.nodeType === 1) return parent.insertBefore(made.spacer, made.element.nextSibling);
     made.spacer.remove();
     if (parent) parent.append(parent.createComment(''));
   }
-  const inner = parent => parent.what === 'doc' ? shown(parent).document : parent.element;
+  // What is inside an image has no box; an engine may show it instead of a canvas.
+  function hideIn(made, parent) {
+    if (parent && parent.nodeName === 'CANVAS') made.element.style.setProperty('display', 'none', 'important');
+    else if (made.element.style.getPropertyPriority('display')) made.element.style.setProperty('display', displayOf(made));
+    if (parent && parent.nodeName === 'CANVAS') made.spacer.style.display = 'none';
+    else made.spacer.style.display = 'flow-root';
+  }
+  const displayOf = made => made.style.display === 'none' ? 'none' : made.kind === 'block' ? 'flow-root' : 'block';
+  const inner = parent => parent.what === 'doc' ? parent.document : parent.element;
   const natural = (width, height) => `${width} ${height}`;
 
   // ---- resize observers: the browser doesn't say where a round ends; that is inferred from what was active as the round began ----
@@ -239,16 +287,18 @@ function observersRun(script, window, setting) {
   // The target at which to listen for an event, with the document in whose realm the listener is created.
   function aim(word, entry) {
     if (word[0] === '@') {
-      const doc = shown(named(word.slice(1), 'doc'));
+      const doc = named(word.slice(1), 'doc');
       return { at: doc.window, doc };
     }
     const thing = node(word, entry, 'node', 'doc', 'query');
     if (thing.what === 'query') return { at: thing.list, doc: thing.doc };
-    if (thing.what === 'doc') return { at: shown(thing).document, doc: thing };
+    if (thing.what === 'doc') return { at: thing.state === 'fresh' ? undefined : thing.document, doc: thing };
     return { at: thing.element, doc: docs.find(doc => doc.document === thing.element.ownerDocument) };
   }
   function listen(word, kind, name, entry) {
     const { at, doc } = aim(word, entry), found = handler(name), key = kind + ' ' + name;
+    if (doc.state === 'fresh' && at) shown(doc, 'a listener of an element');
+    if (doc.state === 'fresh') return void later(doc, () => listen(word, kind, name, null));
     if (!listeners.has(at)) listeners.set(at, new Map());
     const known = listeners.get(at);
     if (!known.has(key)) known.set(key, doc.made(() => call(found, null)));
@@ -256,8 +306,9 @@ function observersRun(script, window, setting) {
   }
   // If the listener is added again, it is created anew, because its target may be in another document by then.
   function unlisten(word, kind, name, entry) {
-    const { at } = aim(word, entry), key = kind + ' ' + name;
+    const { at, doc } = aim(word, entry), key = kind + ' ' + name;
     handler(name);
+    if (doc.state === 'fresh') return void later(doc, () => unlisten(word, kind, name, null));
     const known = listeners.get(at);
     if (!known || !known.has(key)) return;
     at.removeEventListener(kind, known.get(key));
@@ -294,21 +345,22 @@ function observersRun(script, window, setting) {
   const commands = {
     viewport([width, height]) {
       if (!setting.resize) throw new NotShown('a viewport that is changed inside a handler or block');
-      setting.resize(parseFloat(width), parseFloat(height));
+      setting.resize(wholePixels(width), wholePixels(height));
     },
     ratio() { throw new NotShown('a ratio that is changed inside a handler or block'); },
-    block([name, doc]) { fresh(name); make(name, 'block', shown(named(doc, 'doc')), 'div'); },
+    block([name, doc]) { fresh(name); make(name, 'block', named(doc, 'doc'), 'div'); },
     image([name, doc, width, height]) {
       fresh(name);
-      const made = make(name, 'image', shown(named(doc, 'doc')), 'canvas');
+      const made = make(name, 'image', named(doc, 'doc'), 'canvas');
       made.element.style.containIntrinsicSize = natural(width, height);
     },
     frame([name, doc, inside]) {
       fresh(name);
-      const home = shown(named(doc, 'doc'));
+      const home = named(doc, 'doc');
       fresh(inside, name);
       const made = make(name, 'frame', home, 'iframe');
-      const framed = { what: 'doc', name: inside, state: 'fresh', frame: made };
+      const framed = { what: 'doc', name: inside, state: 'fresh', frame: made, waiting: [], document: window.document.implementation.createHTMLDocument('') };
+      framed.document.documentElement.remove();
       names.set(inside, framed);
       docs.push(framed);
     },
@@ -333,6 +385,7 @@ function observersRun(script, window, setting) {
     set([child, property, value], entry) {
       const n = node(child, entry);
       n.style[property] = value;
+      if (property === 'display' && n.element.style.getPropertyPriority('display')) return;
       n.element.style.setProperty(property === 'border' || /^border-(top|right|bottom|left)$/.test(property) ? property + '-width' : property,
         property === 'display' && value === 'block' && n.kind === 'block' ? 'flow-root' : value);
     },
@@ -350,40 +403,41 @@ function observersRun(script, window, setting) {
     },
     ro([name, doc, to]) {
       fresh(name);
-      const o = { what: 'ro', name, doc: shown(named(doc, 'doc')), handler: handler(to), targets: new Map() };
-      o.real = new o.doc.window.ResizeObserver(o.doc.made(entries => guarded(() => resized(o, entries))));
+      const o = { what: 'ro', name, doc: named(doc, 'doc'), handler: handler(to), targets: new Map() };
+      later(o.doc, () => { o.real = new o.doc.ResizeObserver(o.doc.made(entries => guarded(() => resized(o, entries)))); });
       names.set(name, o);
       observers.push(o);
     },
     'ro-observe'([name, child, box], entry) {
       const o = named(name, 'ro'), n = node(child, entry);
-      if (box === 'device' && !('devicePixelContentBoxSize' in o.doc.window.ResizeObserverEntry.prototype)) {
+      if (box === 'device' && !('devicePixelContentBoxSize' in window.ResizeObserverEntry.prototype)) {
         throw new NotShown('observers of device pixels, which this browser lacks');
       }
-      o.real.observe(n.element, { box: box === 'device' ? 'device-pixel-content-box' : box + '-box' });
+      later(o.doc, () => o.real.observe(n.element, { box: box === 'device' ? 'device-pixel-content-box' : box + '-box' }));
       o.targets.delete(n.element);
       o.targets.set(n.element, { box, last: null });
     },
     'ro-unobserve'([name, child], entry) {
       const o = named(name, 'ro'), n = node(child, entry);
-      o.real.unobserve(n.element);
+      later(o.doc, () => o.real.unobserve(n.element));
       o.targets.delete(n.element);
     },
-    'ro-disconnect'([name]) { const o = named(name, 'ro'); o.real.disconnect(); o.targets.clear(); },
+    'ro-disconnect'([name]) { const o = named(name, 'ro'); later(o.doc, () => o.real.disconnect()); o.targets.clear(); },
     io([name, doc, to, , root, ...rest], entry) {
       fresh(name);
-      const home = shown(named(doc, 'doc')), commandsTo = handler(to);
+      const home = shown(named(doc, 'doc'), 'an intersection observer'), commandsTo = handler(to);
       // In a frame of known size, its document takes the place of the implicit root, which would be the window around it.
       const implicit = setting.resize ? document : null;
-      const at = root === '-' ? implicit : inner(node(root, entry, 'node', 'doc'));
+      const given = root === '-' ? null : node(root, entry, 'node', 'doc');
+      const at = !given ? implicit : given.what === 'doc' ? shown(given, 'an observer with the root').document : given.element;
       const cut = rest.indexOf('threshold'), scroll = script.version === 1 ? -1 : rest.slice(0, cut).indexOf('scroll');
       const options = { root: at, rootMargin: rest.slice(1, scroll < 0 ? cut : scroll).join(' '), threshold: rest.slice(cut + 1).map(Number) };
       if (scroll >= 0) {
-        if (!('scrollMargin' in home.window.IntersectionObserver.prototype)) throw new NotShown('scroll margins, which this browser lacks');
+        if (!('scrollMargin' in window.IntersectionObserver.prototype)) throw new NotShown('scroll margins, which this browser lacks');
         options.scrollMargin = rest.slice(scroll + 1, cut).join(' ');
       }
       const o = { what: 'io', name, doc: home, handler: commandsTo };
-      o.real = new home.window.IntersectionObserver(home.made(entries => guarded(() => intersected(o, entries))), options);
+      o.real = new home.IntersectionObserver(home.made(entries => guarded(() => intersected(o, entries))), options);
       names.set(name, o);
     },
     'io-observe'([name, child], entry) { named(name, 'io').real.observe(node(child, entry).element); },
@@ -399,7 +453,7 @@ function observersRun(script, window, setting) {
     unlisten([target, kind, to], entry) { unlisten(target, kind, to, entry); },
     media([name, doc, query]) {
       fresh(name);
-      const home = shown(named(doc, 'doc')), list = home.window.matchMedia(query);
+      const home = shown(named(doc, 'doc'), 'a media query list'), list = home.window.matchMedia(query);
       names.set(name, { what: 'query', name, list, doc: home });
       list.addEventListener('change', e => { noteUpdate(); endRound(); write(`event change ${name} ${e.matches}`); });
     },
@@ -407,19 +461,21 @@ function observersRun(script, window, setting) {
     'scroll-by'([target, x, y], entry) { scroller(target, entry).scrollBy(parseFloat(x), parseFloat(y)); },
     raf([doc, key, to]) {
       const d = named(doc, 'doc'), commandsTo = handler(to);
-      shown(d).frames = d.frames || new Map();
+      d.frames = d.frames || new Map();
       if (d.frames.has(key)) throw new Thrown('TypeError');
-      d.frames.set(key, d.window.requestAnimationFrame(d.made(() => {
+      const request = {}, run = () => {
         noteUpdate();
         d.frames.delete(key);
         write(`frame ${doc} ${key}`);
         call(commandsTo, null);
-      })));
+      };
+      d.frames.set(key, request);
+      later(d, () => { if (d.frames.get(key) === request) request.id = d.window.requestAnimationFrame(d.made(run)); });
     },
     'cancel-raf'([doc, key]) {
       const d = named(doc, 'doc');
       if (!d.frames || !d.frames.has(key)) return;
-      d.window.cancelAnimationFrame(d.frames.get(key));
+      if ('id' in d.frames.get(key)) d.window.cancelAnimationFrame(d.frames.get(key).id);
       d.frames.delete(key);
     },
     timer([doc, key, wait, to]) {
@@ -439,7 +495,7 @@ function observersRun(script, window, setting) {
     read([target], entry) {
       const t = node(target, entry, 'node', 'doc');
       if (t.what === 'doc') {
-        const w = shown(t).window;
+        const w = shown(t, 'the size').window;
         return write(`read ${t.name} ${[0, 0, w.innerWidth, w.innerHeight, w.scrollX, w.scrollY].map(px).join(' ')}`);
       }
       const r = t.element.getBoundingClientRect(), root = t.element.parentNode && t.element.parentNode.nodeType === 9;
@@ -448,7 +504,7 @@ function observersRun(script, window, setting) {
   };
   function scroller(target, entry) {
     const t = node(target, entry, 'node', 'doc');
-    return t.what === 'doc' ? shown(t).window : t.element;
+    return t.what === 'doc' ? shown(t, 'the offset').window : t.element;
   }
 
   // ---- ticks ----
@@ -532,7 +588,7 @@ function observersRun(script, window, setting) {
         const c = script.items[next++];
         if (c.op === 'tick') { if (startTick(c)) { api.wants = ['tick', clock]; return; } }
         else if (c.op === 'ratio') { ratio = parseFloat(c.args[0]) / 100; api.wants = ['ratio', ratio]; return; }
-        else if (c.op === 'viewport' && !setting.resize) { api.wants = ['viewport', parseFloat(c.args[0]), parseFloat(c.args[1])]; return; }
+        else if (c.op === 'viewport' && !setting.resize) { api.wants = ['viewport', wholePixels(c.args[0]), wholePixels(c.args[1])]; return; }
         else begun(c, null, null);
       } api.wants = ['end', lines]; });
       if (!api.stopped && api.wants[0] === 'tick') await quiet();
@@ -550,7 +606,7 @@ function observersRun(script, window, setting) {
       return api.step();
     },
   };
-  const top = { what: 'doc', name: 'top', frame: null };
+  const top = { what: 'doc', name: 'top', frame: null, waiting: [] };
   names.set('top', top);
   docs.push(top);
   opened(top, document);

@@ -5,6 +5,7 @@ import sys
 sys.path.insert(0, os.path.dirname(os.path.dirname(os.path.abspath(__file__))))
 
 from reference import grammar, lexer
+from reference.page import Page
 
 
 class Refused(Exception):
@@ -40,6 +41,13 @@ def read_script(text):
     lines = {number: line for number, line, _ in lexer.lines_of(source)}
     return {'version': script.version, 'items': items(script.commands, lines),
             'handlers': {name: items(handler.commands, lines) for name, handler in script.handlers.items()}}
+
+
+def limit_of(text):
+    """The limit that a script meets by the rules, or None."""
+    lines = []
+    Page(grammar.parse(text.encode('latin-1')), lambda line, script_line, about: lines.append(line)).run()
+    return lines[-1].split()[1] if lines and lines[-1].startswith('limit ') else None
 
 
 def commands_of(script):

@@ -12,6 +12,13 @@ be the proved program's byte for byte.
     loop_errors  lines `event error`
     cures        a script changed so that a loop error doesn't occur, and tried
     meetings     lines `intersect`
+    causes       which commands caused a line
+    kept         a world whose layout is kept where only a height changes
+    reasons      all other lines
+    engines      how an engine's trace differs, by its model
+    held         these answers held against recorded traces
+    slips        all faults of a text
+    foreign      words of CSS and JavaScript
     boxes        the boxes of the tree at a command
     report       the trace with its explanations, as text or as JSON
 """

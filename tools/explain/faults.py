@@ -3,8 +3,9 @@ import re
 
 from reference import available, grammar, lexer, media
 
-from . import hints, source
+from . import foreign, hints, slips, source
 from .pointing import marked
+from .wording import counted
 
 _QUERY_WORDS = ('all', 'screen', 'print', 'and', 'or', 'not', 'only', 'width', 'min-width', 'max-width', 'height', 'min-height',
                 'max-height', 'orientation', 'portrait', 'landscape')
@@ -18,6 +19,29 @@ def explain(fault, script):
     """The lines of the explanation; `fault` is the reference's."""
     explained = _BY_CAUSE[type(fault.cause)](fault, script)
     return explained + _whole_form(fault, script)
+
+
+def others(fault, script):
+    """What is said of the faults after the first one, and all faults as objects."""
+    found = slips.all_faults(script.text)
+    if not found or (found[0].line, found[0].column) != (fault.line, fault.column):
+        found = [fault]
+    explained, objects = [], [slips.as_object(fault, script, _message(explain(fault, script)))]
+    for other in found[1:slips.MOST_FAULTS]:
+        lines = explain(other, script)
+        explained += lines
+        objects.append(slips.as_object(other, script, _message(lines)))
+    if len(found) > 1:
+        explained.insert(0, 'The script has %s more, found by going on at the next line:' % (
+            counted(len(found) - 1, 'fault') if len(found) <= slips.MOST_FAULTS else '%d or more faults' % (slips.MOST_FAULTS - 1)))
+    return explained, objects
+
+
+def _message(lines):
+    """The sentences of an explanation without the lines that are shown, as one text."""
+    said = [line for line in lines if not line.startswith((' ', 'line ', 'Syntax'))]
+    mark = next((line.strip(' ^~') for line in lines if line.strip().startswith('^')), '')
+    return ' '.join(([mark[:1].upper() + mark[1:] + '.'] if mark else []) + said)
 
 
 def _show(fault, script, length, sentence):
@@ -76,7 +100,8 @@ def _unfit(fault, script):
     word = None if cause.word is None else cause.word.decode('ascii')
     if word is None:
         explained = _show(fault, script, 1, 'a word is missing')
-        return explained + ['Expected %s.' % cause.wanted.said]
+        line = (script.line(fault.line) or b'').decode('ascii', 'replace')
+        return explained + ['Expected %s.' % cause.wanted.said] + _helped(foreign.commented(line[fault.column - 1:]))
     explained = _show(fault, script, len(word), 'unexpected `%s`' % _short(word))
     if cause.wanted is None:
         return explained + _unknown_command(word, cause.first_words, _version(script))
@@ -85,10 +110,27 @@ def _unfit(fault, script):
     find = hints.wrong_with_value if cause.wanted.shown == 'VALUE' else hints.wrong_with
     found = find(word, cause.wanted)
     if cause.wanted.shown == 'PROPERTY':
-        return explained + ['There is no style property with this name.',
-                            found or 'The style properties are: %s.' % ', '.join(cause.wanted.keywords)]
+        helped = _helped(foreign.property_(word))
+        return explained + ['There is no style property with this name.'] + helped + (
+            [found] if found and not helped else [] if helped else ['The style properties are: %s.' % ', '.join(cause.wanted.keywords)])
     explained.append('Expected %s.%s' % (cause.wanted.said, ' ' + cause.wanted.shape if cause.wanted.shape else ''))
-    return explained + ([found] if found else [])
+    helped = _helped(_foreign(word, cause.wanted, script.command(fault.line)))
+    return explained + (helped or ([found] if found else []))
+
+
+def _helped(sentence):
+    return [] if sentence is None else [sentence]
+
+
+def _foreign(word, wanted, command):
+    """The sentence on a word from CSS or JavaScript, or None."""
+    if wanted.shown == 'VALUE':
+        return foreign.value(command.split(' ')[2], word) or foreign.operand(word)
+    if 'wider' in wanted.keywords:
+        return foreign.condition(word)
+    if wanted.shown in ('LENGTH', 'SIGNED', 'PERCENT') and foreign.value('', word):
+        return foreign.value('', word)
+    return foreign.operand(word)
 
 
 def _short(word):
@@ -101,7 +143,10 @@ def _unknown_command(word, known, version):
     explained = ["A line can't begin with `%s`." % _short(word)]
     if hints.of_version_2(word):
         return explained + [hints.of_version_2(word)]
+    helped = _helped(foreign.first(word))
     near = hints.close(word, known)
+    if helped and word.lower() not in known:
+        return explained + helped
     if near:
         return explained + ['Did you mean:'] + ['  ' + form for name in near for form in grammar.form_of(name, version)]
     return explained + ['A line begins with one of: %s.' % ', '.join(known)]
@@ -118,6 +163,8 @@ def _too_many(fault, script):
     word = fault.cause.word.decode('ascii')
     explained = _show(fault, script, len(word), 'unexpected `%s`' % _short(word)) + [
         'The line is already complete before this word. A comment begins with `#`.']
+    if foreign.extra(word) and not word.startswith(('//', '/*')):
+        explained.append(foreign.extra(word))
     words = script.command(fault.line).split(' ')
     if words[0] == 'set' and words[2] in ('margin', 'padding', 'border'):
         explained.append('`%s` takes one value, for all four sides; `%s-top` and so on take one for a single side.' % (
@@ -128,7 +175,12 @@ def _too_many(fault, script):
 def _misplaced(fault, script):
     line = script.line(fault.line)
     length = next(len(word) for column, word in lexer.words_of(line) if column == fault.column)
-    return _show(fault, script, length, '') + [fault.cause.sentence]
+    explained = _show(fault, script, length, '') + [fault.cause.sentence]
+    opened = re.search(r'on line ([0-9]+) has no `end` yet', fault.cause.sentence)
+    if opened is None:
+        return explained
+    number = int(opened.group(1))
+    return explained + ['It began there as `%s`, and needs an `end` before line %d.' % (script.command(number), fault.line)]
 
 
 def _bad_query(fault, script):

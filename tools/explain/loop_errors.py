@@ -69,39 +69,62 @@ class Explainer:
     """Explains the loop errors of one run."""
 
     def __init__(self, script, commands, told):
-        self.script, self.commands, self.seen = script, commands, 0
-        self.cured = {}                   # what caused an error -> the number of the trace's line that has its fix
+        self.script, self.commands = script, commands
+        self.cures, self.cured_at = None, None               # those of all errors, and the number of the trace's line that has them
         errors = [line.about for line in told if isinstance(line.about, LoopError)][:MOST_ERRORS]
         self.count = sum([isinstance(line.about, LoopError) for line in told])
         watched = {(left.observer.name, left.observation.target.name) for error in errors for left in error.skipped}
         page = WatchingPage(commands.script, script, sorted(watched))
         page.run()
-        self.changes = page.found
+        self.changes = dict(zip(errors, page.found))         # a loop error -> what changed the sizes that it left
 
     def explain(self, told, place):
         """The lines of the explanation; `place` is the number of the trace's line."""
         error = told.about
-        changes = self.changes[self.seen] if self.seen < len(self.changes) else {}
-        self.seen += 1
-        document = error.document.name
+        changes = self.changes.get(error, {})
         explained = ['The resize loop of `%s` reached depth %d and left %s undelivered: after a round, only deeper targets are '
-                     'delivered in the same update.' % (document, error.depth_reached,
+                     'delivered in the same update.' % (error.document.name, error.depth_reached,
                                                         counted(len(error.skipped), 'observation'))]
-        causes = []
+        causes = set()
         for left in error.skipped:
             found = changes.get((left.observer.name, left.observation.target.name), [])
             explained += self._left(left, found, error.depth_reached)
-            causes += self._causes(left, found)
-        return explained + self._cure(document, causes, place)
+            causes |= {change.line for change in found} if left.told else {left.observation.line}
+        return explained + self._cure(place) + self._predicted(causes, place)
 
-    def _cure(self, document, causes, place):
-        """A fix and what predicts the error, or the line of the trace that has both already."""
-        key = (document, frozenset(causes))
-        if key in self.cured:
-            return ['Fix: see line %d of this trace.' % self.cured[key]]
-        self.cured[key] = place
-        return (cures.cure(self.script, self.commands, document, causes, self.count)
-                + self._predicted({line for line, _ in causes}))
+    def all_cures(self):
+        """The cures of all errors of the run."""
+        if self.cures is None:
+            self.cures = cures.Cures(self.script, self.commands, [
+                cures.Left(error.document, left, changes.get((left.observer.name, left.observation.target.name), []))
+                for error, changes in self.changes.items() for left in error.skipped])
+        return self.cures
+
+    def _cure(self, place):
+        """The cures, or the line of the trace that has them already."""
+        if self.cured_at is not None:
+            return ['Cures: see line %d of this trace.' % self.cured_at]
+        self.cured_at = place
+        found = self.all_cures()
+        explained = [self._kept_said(found)]
+        for number, cure in enumerate(found.kept, 1):
+            explained += ['Cure %d, %s: %s' % (number, cure.name, cure.does)] + cure.told() + ['It costs: %s' % cure.costs]
+        if found.kept:
+            explained.append('`bin/explain --cure NUMBER SCRIPT` writes the changed script.')
+        if found.refused:
+            explained.append('Tried and not kept: %s.' % '; '.join(['%s (%s)' % one for one in found.refused]))
+        if found.is_late:
+            explained.append('Not every cure was tried: that took more than %d seconds of processor time.' % cures.SECONDS)
+        return explained
+
+    def _kept_said(self, found):
+        these = 'this event' if self.count == 1 else 'any of these %d events' % self.count
+        if not found.kept:
+            return ('No change that was tried mends the script. Move what changes the size to a handler that is run by `post` or '
+                    '`raf`, and name the elements there: a task has no `$target`.')
+        many = ('1 cure was', 'it') if len(found.kept) == 1 else ('%d cures were' % len(found.kept), 'each of them')
+        return ('%s found by trying on copies of the script: with %s, the script runs without %s, and all else ends as before.'
+                % (*many, these))
 
     def _left(self, left, changes, reached):
         target = left.observation.target
@@ -132,16 +155,9 @@ class Explainer:
                 target.name, named[0])]
         return []
 
-    @staticmethod
-    def _causes(left, changes):
-        """(line, text) of each command that is to be made later."""
-        if not left.told:
-            return [(left.observation.line, None)]
-        return [(change.line, change.text) for change in changes]
-
-    def _predicted(self, lines):
+    def _predicted(self, lines, place):
         blamed = lint.blamed(self.commands.script, lint.VERDICTS[1][1])
-        if not blamed:
+        if not blamed or place != self.cured_at:
             return []
         here = blamed[0] in lines
         return ['`bin/replay --lint` predicts it: `unquiet %d` names %s (docs/LOOPS.md).' % (

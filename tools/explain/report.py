@@ -8,31 +8,37 @@ from reference.intersection import Entry
 from reference.refusals import Limit, Throw
 from reference.resize_loop import LoopError
 
-from . import faults, limits, loop_errors, meetings, runs, source, throws
+from . import engines, faults, limits, loop_errors, meetings, reasons, runs, source, throws
 from .wording import counted, number
 
 WIDTH = 100
 NOT_BUILT = "The proved program isn't built, so this is the reference program's trace. bin/build builds the proved one."
-MOST_EXPLAINED = 1000
+MOST_EXPLAINED = 1000             # lines that are explained at length
+MOST_REASONS = 100000
 OUT_OF_TIME = 3
 SECONDS_OF_WATCHING = 20
 SECONDS_OF_EXPLAINING = 20
 
 
 class Trace:
-    """The lines of a trace, each with the script's line and its explanation, and sentences on the whole."""
+    """The lines of a trace, each with the script's line and its explanation, and sentences on the whole; `predicted` is the engine's trace,
+    if one was asked for."""
 
     def __init__(self, text):
         self.script = source.Script(text)
         self.notes = []
         self.lines, self.status = [], 0       # (text, script's line or None, explanation)
+        self.predicted = None
+        self.faults = []                      # those of the text, as objects
+        self.cures = None                     # (the number of the line that has them, a list of Cure)
 
     def add(self, text, line=None, explanation=()):
         self.lines.append((text, line, list(explanation)))
 
 
-def explained(text, run=None):
-    """The Trace of a script's bytes; `run` is the reference's over it, where that was made already."""
+def explained(text, run=None, engine=None):
+    """The Trace of a script's bytes; `run` is the reference's over it, where that was made already. With the name of an engine it is that
+    engine's trace by its model, with what differs from the rules."""
     trace = Trace(text)
     proved = runs.Proved(text) if runs.is_built() else None
     run = run or runs.Reference(text)
@@ -46,7 +52,10 @@ def explained(text, run=None):
     if trace.status is None:
         trace.status = OUT_OF_TIME
     trusted = _trusted(trace, proved, run)
-    _explain_lines(trace, written, run, trusted)
+    if engine is not None and run.script is not None:
+        _explain_predicted(trace, engines.Predicted(text, engine, written), run, trusted)
+    else:
+        _explain_lines(trace, written, run, trusted)
     return trace
 
 
@@ -90,9 +99,11 @@ class _Explainers:
     def __init__(self, trace, run):
         self.script, self.run, self.trace = trace.script, run, trace
         self.commands = throws.Commands(run.script, trace.script) if run.script else None
+        self.reasons = reasons.Reasons(self.commands, run.told, run.ended) if run.script else None
         self.loops = None
         self.said = set()                 # sentences on exceptions that needn't be said again
         self.seen = {}                    # an explanation -> the number of the trace's line that has it
+        self.count, self.left_out, self.given = 0, 0, 0
 
     def watch(self):
         """Finds what brought the loop errors."""
@@ -105,10 +116,15 @@ class _Explainers:
             self.trace.notes.append("The loop errors aren't explained: finding their causes took more than %d seconds."
                                     % SECONDS_OF_WATCHING)
 
+    def keep_cures(self):
+        if self.loops is not None and self.loops.cured_at is not None:
+            self.trace.cures = self.loops.cured_at, self.loops.all_cures().kept
+
     def of(self, told, place):
         about = told.about
         if isinstance(about, lexer.Fault):
-            return faults.explain(about, self.script)
+            others, self.trace.faults = faults.others(about, self.script)
+            return faults.explain(about, self.script) + others
         if isinstance(about, (Limit, lexer.TextLimit)):
             return limits.explain(told, self.script, self.run)
         if isinstance(about, Throw):
@@ -118,6 +134,19 @@ class _Explainers:
         if isinstance(about, tuple) and isinstance(about[1], Entry):
             return meetings.explain(told)
         return []
+
+    def explain(self, place, number_):
+        """The explanation of the line at this place, or its reason; `number_` is that of the line in what is written."""
+        told = self.run.told[place]
+        if told.about is None:
+            self.given += 1
+            return self.reasons.of(place) if self.reasons and self.given <= MOST_REASONS else []
+        if self.count >= MOST_EXPLAINED:
+            self.left_out += 1
+            return []
+        explanation = self.once(told, number_)
+        self.count += bool(explanation)
+        return explanation
 
     def once(self, told, place):
         """The explanation, or where the same stands already."""
@@ -137,23 +166,45 @@ class _Explainers:
 def _explain_lines(trace, written, run, trusted):
     explainers = _Explainers(trace, run)
     explainers.watch()
-    count, left_out = 0, 0
     for place, text in enumerate(written):
         if place >= trusted:
             is_last = trusted and place == len(written) - 1
             trace.add(text, explanation=limits.beyond(text, trace.script, run) if is_last else ())
             continue
-        told = run.told[place]
-        if count >= MOST_EXPLAINED:
-            left_out += told.about is not None
-            trace.add(text, told.line)
-            continue
-        explanation = explainers.once(told, place + 1)
-        count += bool(explanation)
-        trace.add(text, told.line, explanation)
-    if left_out:
-        trace.notes.append('Of the lines of the trace with something to explain, only the first %s are explained; there are %s '
-                           'more.' % (number(MOST_EXPLAINED), number(left_out)))
+        trace.add(text, run.told[place].line, explainers.explain(place, place + 1))
+    explainers.keep_cures()
+    if explainers.left_out:
+        trace.notes.append('Of the lines of the trace with something to explain at length, only the first %s are explained; there are %s '
+                           'more.' % (number(MOST_EXPLAINED), number(explainers.left_out)))
+
+
+def _explain_predicted(trace, predicted, run, trusted):
+    """The engine's lines: those that are the rules' with their explanation, the others with how they differ."""
+    if predicted.failure is not None:
+        trace.notes.append("There is no trace of %s: %s. This is the rules'." % (engines.ENGINES[predicted.engine], predicted.failure))
+        _explain_lines(trace, predicted.rules, run, trusted)
+        return
+    trace.predicted = predicted
+    trace.notes += [predicted.summary()] + predicted.notes
+    explainers, seen = _Explainers(trace, run), {}
+    explainers.watch()
+    for place, text in enumerate(predicted.lines):
+        line, explanation = predicted.model.written_at.get(place), []
+        if place in predicted.same:
+            rule = predicted.same[place]
+            if rule < trusted and not (text.startswith('tick ') and predicted.is_busy(place)):
+                line, explanation = run.told[rule].line, explainers.explain(rule, place + 1)
+        elif predicted.differences[place] is not None:
+            explanation = predicted.told(predicted.differences[place], seen, place + 1)
+        trace.add(text, line, explanation + _missing(predicted, place + 1, seen))
+    explainers.keep_cures()
+    if predicted.missing.get(0) and trace.lines:
+        trace.lines[0][2][:0] = _missing(predicted, 0, seen)
+
+
+def _missing(predicted, place, seen):
+    """What is said of the rules' lines that the engine's trace lacks before this place."""
+    return [line for one in predicted.missing.get(place, ()) for line in predicted.told(one, seen, place)]
 
 
 # --- writing ----------------------------------------------------------------------------------------------------------------
@@ -196,4 +247,21 @@ def json_lines(trace):
             told['command'] = trace.script.command(line)
         if explanation:
             told['explanation'] = explanation
+        if trace.faults and place == 1:
+            told['faults'] = trace.faults
+        if trace.cures is not None and trace.cures[0] == place:
+            told['cures'] = [cure.as_object() for cure in trace.cures[1]]
+        if trace.predicted is not None:
+            told.update(_prediction(trace.predicted, place - 1))
         yield json.dumps(told)
+
+
+def _prediction(predicted, place):
+    """How a line of an engine's trace differs, and which of the rules' lines it lacks behind it."""
+    found, one = {}, predicted.differences[place]
+    if one is not None:
+        found['difference'] = one.as_object(predicted.rows)
+    missing = predicted.missing.get(place + 1, []) + (predicted.missing.get(0, []) if place == 0 else [])
+    if missing:
+        found['missing'] = [other.as_object(predicted.rows) for other in missing]
+    return found

@@ -7,5 +7,5 @@ from . import grammar
 
 LANGUAGE = grammar.WHOLE
 VERSIONS = LANGUAGE.versions
-WORDS = ('--check', '--lint', '--summary', '--inspect', '--hit', '--judge', '--pages', '--generate', '--generate-run')
+WORDS = ('--check', '--lint', '--summary', '--print', '--inspect', '--hit', '--judge', '--pages', '--generate', '--generate-run')
 WORDS_OF_THE_REFERENCE_ALONE = ()

@@ -3,6 +3,8 @@
 A form's reader returns None for a word that doesn't have the form. `names` says what an operand of the form must name as its
 command begins: 'new' for a name that is free, 'handler', or kinds of things; it is None for a plain value.
 """
+import functools
+
 from . import styles
 from .lengths import read_length, read_name, read_number, read_percent, read_signed, read_whole
 
@@ -92,6 +94,7 @@ SCROLL_MARGIN = Form('WORD*', None, 'the words of a scroll margin')
 THRESHOLDS = Form('NUMBER*', None, 'thresholds')
 
 
+@functools.lru_cache(16)
 def property_form(version, without=()):
     names = styles.known(version, without)
 
@@ -101,6 +104,7 @@ def property_form(version, without=()):
     return Form('PROPERTY', read, 'a style property', keywords=tuple(names))
 
 
+@functools.lru_cache(128)
 def value_form(property_):
     row = styles.PROPERTIES[property_]
 

@@ -6,7 +6,7 @@ written, and the exit status. The whole answer is computed before anything is wr
 import os
 import sys
 
-from . import generator, grammar, inspector, judge, lengths, lint, streams, trace
+from . import generator, grammar, inspector, judge, lengths, lint, printer, streams, trace
 from .lexer import Fault, TextLimit
 from .page import Page
 
@@ -21,6 +21,7 @@ Without arguments, it replays the script and writes its trace. With arguments, w
   --check            ok and the number of the script's commands
   --lint             whether the resize loops are steady and quiet, or the first line that may prevent it (docs/LOOPS.md)
   --summary          how many lines of each kind the script's trace has
+  --print            the script itself, each line at its line number, in the one form that docs/TRACE.md describes
   --inspect K        each box at the end of the script's K-th tick (1 to 1000000), with the part of it that is visible
   --hit K X Y        the elements at a point of the viewport at the end of that tick, topmost first; X and Y as in 5px or -0.5px
   --judge            whether the recorded trace after a line `trace` is that of the script before it (docs/CONFORMANCE.md)
@@ -65,6 +66,11 @@ def summary(text, language):
     for line in lines:
         counts[line.split(' ', 1)[0]] += 1
     return ['%s %d' % (kind, counts[kind]) for kind in trace.KINDS], status
+
+
+def print_script(text, language):
+    read_script(text, language)
+    return printer.printed(text, language), DONE
 
 
 def lint_script(text, language):
@@ -116,7 +122,8 @@ def pages(text, language):
 
 # --- the table of arguments -------------------------------------------------------------------------------------------------
 
-_WORDS_ALONE = {'--check': check, '--summary': summary, '--lint': lint_script, '--judge': judge_trace, '--pages': pages}
+_WORDS_ALONE = {'--check': check, '--summary': summary, '--print': print_script, '--lint': lint_script, '--judge': judge_trace,
+                '--pages': pages}
 
 
 def _whole(word, least, most):

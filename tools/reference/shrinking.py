@@ -1,20 +1,60 @@
-"""Reduces a script to fewer lines for which something still holds: it leaves out lines, first many at a time, then one by
-one, and blocks as a whole or only their first and last lines; finally it leaves out single words, or replaces them with
-simpler ones, so that more lines can be left out.
+"""Reduces a script to fewer lines for which something still holds: it leaves out all that names a thing, then lines, first many
+at a time, then one by one, and blocks as a whole or only their first and last lines; finally it leaves out single words, or
+replaces them with simpler ones, so that more lines can be left out. tools/shrink is the command for it.
 """
+import hashlib
 
 _MOST_LINES_FOR_SIMPLER_WORDS = 60
 _SIMPLER_NAMES = 4
 
-def shrunk(text, holds):
-    """The reduced script; `holds` says whether the bytes of a script still have the property, which `text` must have."""
-    lines = text.split(b'\n')
+def shrunk(text, holds, keep=lambda text: None):
+    """The reduced script; `holds` says whether the bytes of a script still have the property, which `text` must have. No script
+    is asked about twice. Each smaller script is handed to `keep`."""
+    refused = set()
+
+    def still(fewer):
+        reduced = b'\n'.join(fewer)
+        mark = hashlib.sha256(reduced).digest()
+        if mark in refused:
+            return False
+        if holds(reduced):
+            keep(reduced)
+            return True
+        refused.add(mark)
+        return False
+    lines = [line for line in text.split(b'\n') if line.split() and not line.split()[0].startswith(b'#')] + [b'']
+    if not still(lines):
+        lines = text.split(b'\n')
     before = None
     while before != lines:
         before = lines
-        for cut in (_without_runs, _without_units, _without_words, _with_simpler_words):
-            lines = cut(lines, lambda fewer: holds(b'\n'.join(fewer)))
+        for cut in (_without_names, _without_runs, _without_units, _without_words, _with_simpler_words):
+            lines = cut(lines, still)
     return b'\n'.join(lines)
+
+
+def _without_names(lines, holds):
+    """Leaves out all lines that name a thing, the things with most lines first: an element with its properties, an observer with
+    its handler. A block or handler goes as a whole."""
+    named = {}
+    for words in (line.split() for line in lines):
+        for word in words[1:2] if words[:1] and words[0] in (b'block', b'image', b'frame', b'ro', b'io', b'media', b'handler') else ():
+            named[word] = 0
+    for line in lines:
+        for word in line.split():
+            if word in named:
+                named[word] += 1
+    for name in sorted(named, key=lambda name: -named[name]):
+        fewer, place = [], 0
+        while place < len(lines):
+            words = lines[place].split()
+            end = _unit_end(lines, place) if words[:1] and words[0] in (b'handler', b'when') and name in words else place + 1
+            if name not in words:
+                fewer.append(lines[place])
+            place = end
+        if fewer != lines and holds(fewer):
+            lines = fewer
+    return lines
 
 
 def _unit_end(lines, start):

@@ -88,6 +88,8 @@ case('a script is generated', b'',
 case('a word too many is refused', ONE_BLOCK, '', 6, ['--check', 'x'])
 case('commands are counted', ONE_BLOCK, 'ok 5', words=['--check'])
 case('an empty text is not a script', '', 'syntax 1 1', 1, ['--check'])
+case('a script is printed in one form', b'script 1\n\n  viewport 800.50px   600px # size\ntick 5\n',
+     'script 1 /  / viewport 800.5px 600px / tick 5', words=['--print'])
 case('lines are counted', GROWING,
      'tick 2 / timer 0 / frame 0 / task 0 / event 2 / resize 6 / round 4 / intersect 0 / take 0 / say 0 / read 0 / throw 0 / '
      'limit 0 / syntax 0', words=['--summary'])

@@ -2,7 +2,6 @@
 
     boxes      the boxes of a world, packed so that little changes from one tick to the next
     recording  a run of the reference that records trace, callbacks, commands and boxes, tick by tick
-    causes     which lines of the script caused a line of the trace
     data       the page's data: the recording with the trace and its explanations (tools/explain/)
     page       the page itself: one file of HTML, style and program
 

@@ -1,4 +1,5 @@
 'use strict';
+// Gives to others: `States` (the boxes at the end of each step, and at moments within one), `Boxes`, `allChanges`, and lengths as text.
 // The boxes of a tick, unpacked from differences (boxes.py says how they are packed), with clips, visible parts, hits and changes.
 // All numbers are units of 1/64 px; rectangles are [left, top, right, bottom] in the coordinates of `top`'s viewport.
 
@@ -39,9 +40,21 @@ class States {
     }
     return this.unpacked.get(place);
   }
+  // The boxes at a moment within a step: those after its moment of this number, or as the step before ended for -1.
+  within(place, moment) {
+    const moments = this.data.steps[place].moments || [];
+    if (moment < 0) return this.at(place - 1) || this.at(place);
+    const key = place + '/' + moment;
+    if (!this.unpacked.has(key)) {
+      if (this.unpacked.size > 8) this.unpacked.clear();
+      const before = place > 0 ? copied(this.packed(place - 1)) : emptyState();
+      this.unpacked.set(key, new Boxes(moments.slice(0, moment + 1).reduce((state, one) => applied(state, one[1]), before), this.framed, this.data));
+    }
+    return this.unpacked.get(key);
+  }
   packed(place) {
     let from = Math.min(Math.floor(place / KEPT_EVERY), this.kept.length - 1);
-    let state = from < 0 ? { ratio: WHOLE, documents: new Map(), elements: new Map(), children: new Map(), observed: new Map() } : copied(this.kept[from]);
+    let state = from < 0 ? emptyState() : copied(this.kept[from]);
     for (let at = from < 0 ? 0 : from * KEPT_EVERY + 1; at <= place; at++) {
       state = applied(state, this.data.steps[at].boxes);
       if (at === this.kept.length * KEPT_EVERY) this.kept.push(copied(state));
@@ -49,6 +62,7 @@ class States {
     return state;
   }
 }
+const emptyState = () => ({ ratio: WHOLE, documents: new Map(), elements: new Map(), children: new Map(), observed: new Map() });
 function copied(state) {
   return { viewport: state.viewport, ratio: state.ratio, leftOut: state.leftOut, documents: new Map(state.documents),
     elements: new Map(state.elements), children: new Map(state.children), observed: new Map(state.observed) };

@@ -54,6 +54,8 @@ class State:
         self.documents, self.elements, self.children, self.observed = {}, {}, {}, {}
         self.left_out = 0
         self.has_holders = False
+        self.scrollers = set()            # the elements that scroll
+        self.base, self.touched = None, ()  # the state that this one follows, and the only elements whose records may differ from it
 
 
 def state(world, things, most=MOST_BOXES):
@@ -71,27 +73,42 @@ def state(world, things, most=MOST_BOXES):
         number = things.element(element)
         record = found.elements[number] = _record(layout, things, element)
         found.has_holders = found.has_holders or len(record) > HOLDER and not isinstance(record, str)
+        if len(record) > SCROLL and record[SCROLL] and not isinstance(record, str):
+            found.scrollers.add(number)
         if element.children:
             found.children[number] = tuple([things.element(child) for child in element.children if child in shown])
     _note_observations(world, things, found)
     return found
 
 
-def scrolled_state(world, things, before):
-    """The boxes of a world in which nothing but scroll positions changed since this state; None if all of them have to be computed,
-    because a box whose containing block isn't its parent moves relative to its parent."""
-    if before.has_holders:
+def followed_state(world, things, before, resized):
+    """The boxes of a world in which nothing but scroll positions and the sizes of these elements changed since this state; None if all of
+    them have to be computed, because a box whose containing block isn't its parent moves relative to its parent."""
+    if before is None or before.has_holders:
         return None
     layout, elements, documents = world.layout, list(things.elements), list(things.documents)
     found = State(before.viewport, world.pixel_ratio)
     found.left_out, found.has_holders, found.children = before.left_out, False, before.children
-    found.documents = {number: known[:1] + tuple(layout.document_offset(documents[number])) + known[3:]
+    found.documents = {number: known[:1] + tuple(layout.document_offset(documents[number])) + tuple(layout.document_range(documents[number]))
                        for number, known in before.documents.items()}
     found.elements = dict(before.elements)
-    for number, record in before.elements.items():
+    found.scrollers, found.base = set(before.scrollers), before
+    changed = {things.elements.get(element) for element in resized} | before.scrollers
+    found.touched = sorted([number for number in changed if number in before.elements])
+    for number in found.touched:
+        record = found.elements[number] = _record(layout, things, elements[number])
         if len(record) > SCROLL and record[SCROLL] and not isinstance(record, str):
-            scroll = tuple(layout.element_offset(elements[number])) + record[SCROLL][2:]
-            found.elements[number] = record[:SCROLL] + (scroll,) + record[SCROLL + 1:]
+            found.scrollers.add(number)
+    _note_observations(world, things, found)
+    return found
+
+
+def observed_again(world, things, before):
+    """The boxes of a state with the observations as they are now."""
+    found = State(before.viewport, world.pixel_ratio)
+    found.left_out, found.has_holders, found.scrollers = before.left_out, before.has_holders, before.scrollers
+    found.documents, found.elements, found.children = before.documents, before.elements, before.children
+    found.base, found.touched = before.base, before.touched
     _note_observations(world, things, found)
     return found
 
@@ -194,6 +211,12 @@ def difference(before, after):
         changed['ratio'] = after.ratio
     for part in PARTS:
         old, new = {} if before is None else getattr(before, part), getattr(after, part)
+        if old is new:
+            continue
+        if part == 'elements' and before is not None and after.base is before:
+            other = {number: new[number] for number in after.touched if old.get(number) != new[number]}
+            changed.update({part: other} if other else {})
+            continue
         other = {number: value for number, value in new.items() if old.get(number) != value}
         other.update({number: None for number in old if number not in new})
         if other:

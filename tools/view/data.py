@@ -4,18 +4,19 @@ The trace is the proved program's if that is built. If the recording's trace dif
 """
 import subprocess
 
-from explain import report, runs
+from explain import engines, report, runs
 from reference import available, grammar, program
 from reference.lexer import Fault, TextLimit
 
-from . import boxes, recording
+from . import boxes, engine_boxes, recording
 
 MOST_SCRIPT_LINES = 20000
 MOST_SCRIPT_BYTES = 2000000
 
 
-def of(text, name, tick=None, say=lambda sentence: None):
-    """(object, exit status) for a script's bytes; `tick` is the number of the tick at which the page opens, or None."""
+def of(text, name, tick=None, say=lambda sentence: None, engine=None):
+    """(object, exit status) for a script's bytes; `tick` is the number of the tick at which the page opens, or None; `engine` the name of
+    the engine whose trace is compared, or None."""
     try:
         recorded, failure = _recorded(text, tick, say), None
     except Exception as fault:
@@ -31,6 +32,13 @@ def of(text, name, tick=None, say=lambda sentence: None):
     page = {'name': name, 'status': trace.status, 'trace': 'proved' if runs.is_built() else 'reference', 'open': tick}
     page.update(_recording_parts(recorded, trace, notes) if recorded is not None else _plain_parts(trace))
     page['checked'] = None if recorded is None else _checked(recorded, text, notes)
+    if engine is not None and trace.lines and not trace.lines[0][0].startswith(('syntax ', 'limit ')):
+        say('asking the model of %s' % engines.ENGINES[engine])
+        predicted = engines.Predicted(text, engine, [line[0] for line in trace.lines])
+        page['as'] = _engine_parts(predicted, page['firstLine'], notes)
+        if page['as'] is not None and recorded is not None:
+            page['as']['boxes'] = engine_boxes.differences(recorded, predicted.script, engine)
+            page['elements'], page['documents'] = recorded.things.listed()        # some may be only in the engine's run
     page.update(_script_parts(trace.script, page, notes))
     page['notes'] = notes
     return page, trace.status
@@ -73,12 +81,29 @@ def _checked(recorded, text, notes):
     return None
 
 
+def _engine_parts(predicted, first, notes):
+    """What an engine does differently: by the numbers of the lines kept, what comes in their place, and what comes only there."""
+    name = engines.ENGINES[predicted.engine]
+    if predicted.failure is not None:
+        notes.append('There is no trace of %s: %s.' % (name, predicted.failure))
+        return None
+    notes.extend([predicted.summary('The lines are those of the run by the rules. By its model, the trace of %s')] + predicted.notes)
+    found, seen = {'name': name, 'lines': {}, 'added': {}, 'boxes': None}, {}
+    for place, one in predicted.in_order():
+        if one.rule is not None:
+            found['lines'][one.rule - first] = [one.kind, one.line, predicted.told(one, seen, place + 1)]
+        else:
+            found['added'].setdefault(one.after - first, []).append([one.line, predicted.told(one, seen, place + 1)])
+    return found
+
+
 # --- the recording ------------------------------------------------------------------------------------------------------------
 
 def _recording_parts(recorded, trace, notes):
     elements, documents = recorded.things.listed()
     start = recorded.told_before
-    lines = [_line(line, explanation) for line, (_, _, explanation) in zip(recorded.lines, trace.lines[start:])]
+    # The page itself gives the reasons for lines that aren't about anything more than that.
+    lines = [_line(line, explanation if line.about is not None else []) for line, (_, _, explanation) in zip(recorded.lines, trace.lines[start:])]
     _note_left_out(recorded, trace, notes)
     return {'elements': elements, 'documents': documents, 'handlers': {
         handler.name: handler.line for handler in recorded.script.handlers.values()},
@@ -97,6 +122,8 @@ def _line(line, explanation):
 def _step(step):
     found = {'kind': step.kind, 'number': step.number, 'line': step.line, 'time': step.time, 'commands': step.commands,
              'since': step.since, 'log': step.log, 'boxes': step.boxes}
+    if step.moments:
+        found['moments'] = step.moments
     if step.not_kept:
         found['notKept'] = step.not_kept
     if step.lines_not_kept:
@@ -118,6 +145,9 @@ def _note_left_out(recorded, trace, notes):
             '{:,}'.format(recorded.lines_left_out), '{:,}'.format(len(recorded.told))))
     if recorded.boxes_left_out_from is not None:
         notes.append('From tick %d on, the boxes are left out, because too many have changed by then.' % recorded.boxes_left_out_from)
+    if recorded.no_moments_from is not None:
+        notes.append('From tick %d on, the drawing is always that of the end of a tick: there are too many boxes to keep each moment.'
+                     % recorded.no_moments_from)
     if recorded.causes.unknown_from is not None:
         notes.append("From tick %d on, the page doesn't say which command changed an observed size: there are too many to check."
                      % recorded.causes.unknown_from)
@@ -189,4 +219,6 @@ def _pointed_at(page):
 def shown(text):
     """The bytes of a line as text, decoded as UTF-8, with a mark for what is invalid or not printable."""
     decoded = text.rstrip(b'\r').decode('utf-8', 'replace')
+    if decoded.isprintable():
+        return decoded
     return ''.join([letter if letter == '\t' or letter.isprintable() else '\ufffd' for letter in decoded])

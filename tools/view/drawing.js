@@ -1,4 +1,5 @@
 'use strict';
+// Gives to others: `Drawing`, the boxes in SVG, to scale; `meeting` is what a line `intersect` was found with, or null.
 // The boxes of a tick in SVG, to scale. Numbers in the drawing are CSS pixels of the page; the size of text and marks follows the scale
 // at which it is shown.
 
@@ -28,7 +29,7 @@ function seenSaid(box) {
 }
 
 class Drawing {
-  constructor(data, place) { Object.assign(this, { data, place, view: 'viewport', zoom: 1, boxes: null, labels: [], lastPoint: null }); }
+  constructor(data, place) { Object.assign(this, { data, place, view: 'viewport', zoom: 1, boxes: null, labels: [], lastPoint: null, meeting: null, apart: new Set() }); }
 
   // ---- the whole drawing ----
 
@@ -42,13 +43,15 @@ class Drawing {
     const frame = this.frame(chosen, room, most), scale = Math.min(room / frame[2], most / frame[3]);
     Object.assign(this, { before, changes, scale, frameNow: frame, height: Math.max(60, frame[3] * scale) });
     this.first = boxes.order.map(row => row.element).find(element => boxes.boxes.has(element));
-    this.place.innerHTML = shown(this.svg());
+    this.put();
     this.choose(chosen);
   }
+  put() { this.place.innerHTML = shown(this.svg()); }
   // The part of the page that is drawn: [left, top, width, height] in its pixels.
   frame(chosen, room, most) {
     const all = [...this.boxes.boxes.values()].map(box => box.rectangle), box = this.boxes.boxes.get(chosen);
     let r = this.boxes.viewports[0].rectangle;
+    if (this.view === 'viewport' && this.meeting && this.meeting.root && !isCrossed(this.meeting.root)) r = union(r, this.meeting.root);
     if (this.view === 'page') r = all.reduce(union, r);
     else if (this.view === 'box' && box) r = around(box.rectangle);
     const size = [widthOf(r), heightOf(r)].map(length => Math.max(1, units(length)) / this.zoom);
@@ -81,7 +84,8 @@ class Drawing {
   }
   shape(element) {
     const box = this.boxes.boxes.get(element), kind = this.data.elements[element][1], hasArea = box.seen && widthOf(box.seen) > 0 && heightOf(box.seen) > 0;
-    const names = ['box', kind, !box.seen && 'unseen', this.changeWords(element).length > 0 && 'changed'].filter(Boolean).join(' ');
+    const names = ['box', kind, !box.seen && 'unseen', this.changeWords(element).length > 0 && 'changed', this.apart.has(element) && 'apart']
+      .filter(Boolean).join(' ');
     return html`<g class="${names}" data-element="${element}" role="button" tabindex="-1" aria-label="${this.said(element, box)}">${
       rect('outline', box.rectangle)}${hasArea && rect('seen', box.seen)}${kind === 'image' && this.cross(box.rectangle)}${
       box.overflow && rect('edge', box.padding)}${box.scroll && this.thumbs(box.padding, box.scroll)}</g>`;
@@ -97,8 +101,10 @@ class Drawing {
     return [
       name, kind, `${width} by ${height} at ${left} ${top}`, seenSaid(box), box.overflow && `clips, overflow ${box.overflow}`,
       box.scroll && (box.scroll[0] || box.scroll[1]) && `scrolled to ${px(box.scroll[0])} ${px(box.scroll[1])}`, ...this.changeWords(element),
+      this.apart.has(element) && this.apartSaid(),
     ].filter(Boolean).join(', ');
   }
+  apartSaid() { return `${this.data.as.name} differs`; }
   // Where boxes were that are resized, moved or gone.
   ghosts() {
     const isElsewhere = ([, words]) => ['resized', 'moved', 'gone'].some(one => words.includes(one));
@@ -126,7 +132,19 @@ class Drawing {
     svg.querySelector('.over').innerHTML = shown(this.over());
     svg.querySelector('.labels').innerHTML = shown(this.names());
   }
+  // The root's rectangle of an intersection, with its margin, what clips the target, and what is left of it.
+  meetingParts() {
+    const { root, own, clips, cut } = this.meeting;
+    if (!root) return '';
+    const seen = list => list.filter(r => !isCrossed(r));
+    return html`${!isSame(root, own) && seen([own]).map(r => rect('root-own', r))}${seen([root]).map(r => rect('root', r))}${
+      clips.map(([clip]) => seen([clip]).map(r => rect('clip', r)))}${cut && rect('cut', cut)}`;
+  }
   over() {
+    if (this.meeting) {
+      const target = this.boxes.boxes.get(this.chosen);
+      return html`${this.meetingParts()}${target && rect('picked', target.rectangle)}`;
+    }
     const box = this.boxes.boxes.get(this.chosen), clips = box ? this.boxes.clips(this.chosen).map(clip => clip.rectangle) : [];
     return box && html`${clips.filter(r => !isCrossed(r)).map(r => rect('clip', r))}${rect('picked', box.rectangle)}`;
   }
@@ -144,7 +162,8 @@ class Drawing {
   nameOf(element, isChanged) {
     const box = this.boxes.boxes.get(element), kind = element === this.chosen ? 'of-chosen' : isChanged ? 'of-changed' : '';
     if (!box || !box.seen && !kind) return '';
-    const text = [this.data.elements[element][0], ...this.changeWords(element).slice(0, 1)].join(' \u00b7 ') + (box.seen ? '' : ', not visible');
+    const apart = this.apart.has(element) ? [this.apartSaid()] : [];
+    const text = [this.data.elements[element][0], ...this.changeWords(element).slice(0, 1), ...apart].join(' \u00b7 ') + (box.seen ? '' : ', not visible');
     return this.label(box.seen || box.rectangle, text, kind, false) || this.label(box.rectangle, text, kind, false);
   }
   label(rectangle, text, kind, isOutside) {

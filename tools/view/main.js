@@ -1,5 +1,5 @@
 'use strict';
-// What the page shows at first, and what clicks and keys do.
+// What the page shows at first, and what clicks and keys do. It gives nothing to others.
 
 const AFTER_SHOWN = act => requestAnimationFrame(() => requestAnimationFrame(act));
 
@@ -12,11 +12,17 @@ function begin() {
   if (data.steps.length > MANY) fill('overview', panels.overview());
   fill('script-count', counted(data.scriptLines, 'line'));
   fill('notes', notes());
+  if (data.as) document.querySelector('[data-side="engine"]').textContent = 'In ' + data.as.name;
   at('notes').hidden = !at('notes').textContent;
   at('trouble').disabled = !data.steps.some(step => trace.isTrouble(step));
   at('previous').disabled = at('next').disabled = data.steps.length < 2;
   document.body.classList.toggle('plain', !data.steps.some(step => step.boxes));
-  if (!fromAddress(data.open)) choose({ place: first() });
+  if (!fromAddress(data.open)) choose({ place: first(), ...atFirst(first()) });
+}
+// The box that the first loop error of a step is about.
+function atFirst(place) {
+  const line = trace.linesOf(data.steps[place]).find(one => trace.isError(one) && trace.elements(one).length);
+  return line === undefined ? {} : { element: trace.elements(line)[0] };
 }
 function source() {
   const unbuilt = html`the reference program\u2019s, because the proved one isn\u2019t built (<code>bin/build</code> builds it).`;
@@ -64,12 +70,27 @@ function toTick(text) {
   else say(`There is no tick ${text} here; the page has ticks ${number(ticks[0].number)} to ${number(ticks[ticks.length - 1].number)}.`);
 }
 function toLine(line) {
-  const elements = trace.elements(line);
-  choose({ place: panels.placeOf.get(line), line, element: elements.length ? elements[0] : chosen.element });
+  const elements = trace.elements(line), place = panels.placeOf.get(line), item = data.steps[place].log.findIndex(one => one[0] === 'line' && one[1] === line);
+  choose({ place, line, at: item < 0 ? null : item, element: elements.length ? elements[0] : chosen.element });
   AFTER_SHOWN(() => {
     const row = at('story').querySelector(`[data-line="${line}"]`);
     if (row) row.scrollIntoView({ block: 'nearest' });
   });
+}
+// Draws the page at a place in the log of the tick.
+const toMoment = moment => choose({ at: moment, line: -1 });
+// The next or previous moment of the tick at which a box is different.
+function stepMoment(by) {
+  const places = (data.steps[chosen.place].moments || []).map(one => one[0]), now = chosen.at === null ? Infinity : chosen.at;
+  const found = by > 0 ? places.find(one => one > now) : places.slice().reverse().find(one => one < now && (chosen.at !== null || one !== places[places.length - 1]));
+  if (found !== undefined) toMoment(found);
+  else if (by < 0) toMoment(-1);
+  else choose({ at: null });
+}
+function toOther(text) {
+  const wanted = text.toLowerCase(), place = wanted === 'start' ? 0 : data.steps.findIndex(one => one.kind === 'tick' && one.number === Number(text));
+  if (text && place < 0) say(`There is no tick ${text} here to compare with.`);
+  else choose({ other: text ? place : -1 });
 }
 // The next of a list, or its first or last if none of it is chosen.
 function nextOf(list, now, by) {
@@ -86,7 +107,7 @@ function stepBox(by, part) {
 }
 // `part` is the id of the part of the page in which the box gets the focus, if any.
 function toBox(element, part) {
-  choose({ element, line: -1 });
+  choose({ element, line: -1, at: trace.meeting(chosen.line) ? null : chosen.at });
   if (part) {
     AFTER_SHOWN(() => {
       const box = at(part).querySelector(`[data-element="${element}"]`);
@@ -144,22 +165,24 @@ function toFind() {
 // ---- clicks ----
 
 const CLICKS = [
-  ['#overview svg', toPoint],
   ['[data-script]', node => toScript(Number(node.dataset.script))],
   ['[data-to-line]', node => toLine(Number(node.dataset.toLine))],
   ['[data-step]', node => toPlace(Number(node.dataset.step))],
   ['[data-view]', node => toView(node.dataset.view)],
   ['[data-zoom]', node => zoom(Number(node.dataset.zoom))],
+  ['[data-side]', node => choose({ side: node.dataset.side })],
   ['[data-all]', () => showAll('')],
   ['[data-more]', node => showAll(node.dataset.more)],
   ['#drawing', (node, event) => toBox(drawing.picked(drawing.pointAt(event), chosen.element), '')],
   ['[data-element]', node => toBox(Number(node.dataset.element), '')],
   ['summary', () => {}],
+  ['[data-moment]', node => toMoment(Number(node.dataset.moment))],
+  ['#as-it-ends', () => choose({ at: null, line: -1 })],
   ['[data-line]', node => toLine(Number(node.dataset.line))],
   ['#previous', () => toPlace(chosen.place - 1)],
   ['#next', () => toPlace(chosen.place + 1)],
   ['#trouble', () => toTrouble(1)],
-  ['#help-button', () => at('help').showModal()],
+  ['#help-button, #more-button', () => at('help').showModal()],
 ];
 document.addEventListener('click', event => {
   if (!getSelection().isCollapsed) return;
@@ -167,6 +190,19 @@ document.addEventListener('click', event => {
   if (found) found[1](event.target.closest(found[0]), event);
 });
 at('number').addEventListener('change', event => toTick(event.target.value.trim()));
+at('other').addEventListener('change', event => toOther(event.target.value.trim()));
+// The overview is dragged: each place under the pointer is a tick.
+at('overview').addEventListener('pointerdown', event => {
+  const svg = event.target.closest('svg');
+  if (!svg || event.button) return;
+  event.preventDefault();
+  svg.setPointerCapture(event.pointerId);
+  toPoint(svg, event);
+});
+at('overview').addEventListener('pointermove', event => {
+  const svg = event.target.closest('svg');
+  if (svg && svg.hasPointerCapture(event.pointerId)) toPoint(svg, event);
+});
 at('find').addEventListener('input', showTree);
 at('all-boxes').addEventListener('toggle', () => at('all-boxes').open && showTree());
 at('script-part').addEventListener('toggle', () => at('script-part').open && scriptOf !== chosen.place && showScript());
@@ -194,8 +230,21 @@ const KEYS = {
   n: () => toTrouble(1), p: () => toTrouble(-1), j: () => stepLine(1), k: () => stepLine(-1), b: () => stepBox(1), B: () => stepBox(-1),
   c: () => toChange(1), C: () => toChange(-1), v: nextView, '+': () => zoom(1), '=': () => zoom(1), '-': () => zoom(-1), 0: () => zoom(0),
   t: () => at('number').select(), f: toFind, s: () => toScript(scriptLine()), '?': () => at('help').showModal(),
-  Escape: () => choose({ element: -1, line: -1 }),
+  m: () => stepMoment(1), M: () => stepMoment(-1), Escape: () => choose({ element: -1, line: -1, at: null, other: -1 }),
 };
+// Single keys can be turned off; the browser remembers it if it can.
+const single = at('single');
+try { single.checked = localStorage.getItem('single-keys') !== 'off'; } catch (e) { /* a page from a file may have no storage */ }
+single.addEventListener('change', () => {
+  try { localStorage.setItem('single-keys', single.checked ? 'on' : 'off'); } catch (e) { /* it is off for this page alone */ }
+});
+// Whether a key scrolls what has the focus.
+function scrolls(event) {
+  const active = document.activeElement, isAcross = ['ArrowLeft', 'ArrowRight'].includes(event.key);
+  if (!active || active === document.body || !(isAcross || ['Home', 'End'].includes(event.key))) return false;
+  const style = getComputedStyle(active), over = isAcross ? style.overflowX : style.overflowY;
+  return ['auto', 'scroll'].includes(over) && (isAcross ? active.scrollWidth > active.clientWidth : active.scrollHeight > active.clientHeight);
+}
 // Keys that mean something else in the drawing and in the tree; returns whether this was one.
 function inPart(event) {
   const active = document.activeElement, part = ['stage', 'tree'].find(id => at(id).contains(active)), by = { ArrowDown: 1, ArrowUp: -1 }[event.key];
@@ -210,6 +259,7 @@ document.addEventListener('keydown', event => {
     if (event.key === 'Escape') event.target.blur();
     return;
   }
+  if (scrolls(event) || !single.checked && event.key.length === 1 && event.key !== ' ') return;
   const act = KEYS[event.key];
   if (!inPart(event)) {
     if (!act) return;

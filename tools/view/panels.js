@@ -1,5 +1,5 @@
 'use strict';
-// The panels around the drawing: the ticks, what changed, the chosen box, all boxes and the script.
+// Gives to others: `Panels`, the parts around the drawing: the ticks, what changed, the chosen box, all boxes and the script.
 
 const ROWS = 60;                 // rows of a list before a button for the others
 const TREE_ROWS = 400;
@@ -127,11 +127,13 @@ class Panels {
 
   // ---- the chosen box ----
 
-  chosen(element, place, boxes) {
+  // `both` says, with an engine's model, whose boxes these are and what the other side's box is.
+  chosen(element, place, boxes, both) {
     const [, kind, line] = this.data.elements[element], box = boxes && boxes.boxes.get(element), observed = boxes && boxes.packed.observed.get(element);
     const facts = [fact('created', html`${kind}, ${this.sentences.ref(line)} ${this.sentences.code(line)}`)];
-    if (box) facts.push(...this.geometry(element, box, boxes));
+    if (box) facts.push(...this.geometry(element, box, boxes, both));
     else if (boxes) facts.push(fact('box', html`none: ${quoted(boxes.reasons.get(element) || 'it isn\u2019t in a document that is shown')}`));
+    if (both && both.boxes) facts.push(...this.otherSide(both, element, box));
     return html`<dl class="facts">${facts}</dl>${observed && this.observers(observed, box, boxes)}${box && this.clips(element, box, boxes)}${
       this.history(element)}${this.linesAbout(element, place)}`;
   }
@@ -140,11 +142,19 @@ class Panels {
     if (box.holder === ON_PAGE) return html`the page of ${bold(this.documentName(box.document))}`;
     return box.holder === ON_SCREEN ? html`the screen of ${bold(this.documentName(box.document))}` : this.sentences.thing(box.holder - 1);
   }
-  geometry(element, box, boxes) {
+  // The box of the other side, if it is another one.
+  otherSide(both, element, box) {
+    const other = both.boxes.boxes.get(element), isAlike = box && other && isSame(box.rectangle, other.rectangle) || !box && !other;
+    const scrolled = isAlike && box && box.scroll && other.scroll && !isSame(box.scroll.slice(0, 2), other.scroll.slice(0, 2));
+    if (scrolled) return [fact(both.other, html`<b class="odd">scrolled to ${scrollText(other.scroll)}</b>`)];
+    if (isAlike) return [fact(both.other, 'the same box')];
+    return [fact(both.other, html`<b class="odd">${other ? `${sizeOf(other.rectangle)} at ${cornerText(other.rectangle, other.origin)}` : 'no box'}</b>`)];
+  }
+  geometry(element, box, boxes, both) {
     const r = box.rectangle, sides = from => box.edges.slice(from, from + 4), parent = boxes.parents.get(element);
     const most = box.scroll && box.scroll.slice(2).map(px).join(' ');
     return [
-      fact('border box', html`${sized(sizeOf(r))} at ${cornerText(r, box.origin)}`),
+      fact(both ? 'border box, ' + both.own : 'border box', html`${sized(sizeOf(r))} at ${cornerText(r, box.origin)}`),
       box.holder !== 0 && fact('containing block', this.holder(box)),
       !isSame(box.content, r) && fact('content box', sizeOf(box.content)),
       sides(0).some(Boolean) && fact('border width', sides(0).map(px).join(' ')),

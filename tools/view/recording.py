@@ -13,43 +13,34 @@ A log is a list of items:
         log if they changed such a size.
 """
 import time
-from collections import Counter
 
-from explain.runs import Told
+from explain.kept import KeptWorld
+from explain.runs import CausedPage
 from reference import program
 from reference.comparing import TooLong
+from reference.intersection import common_part
 from reference.page import Page
-from reference.resize_loop import ResizeEntry
-from reference.world import World
 
 from . import boxes
-from .causes import Causes
 
 MOST_TICKS = 2000
 MOST_LINES = 20000                # of the trace
 MOST_COMMANDS_OF_A_TICK = 400     # in handlers, and calls of handlers
 MOST_COMMANDS = 40000
 MOST_DIFFERENCES = 400000         # values of packed boxes
+MOST_OF_MOMENTS = 40000          # boxes that are looked at for moments within ticks
 SECONDS = 120                     # of processor time
+COMMANDS_BETWEEN_LOOKS = 50       # at the clock
 
 START, TICK, END = 'start', 'tick', 'end'
-
-
-class Line:
-    """A line of the trace: the script's line of the command that was running, the elements that it is about, its causes as pairs
-    (line, word), and what else is known about it."""
-    __slots__ = ('text', 'line', 'elements', 'causes', 'more')
-
-    def __init__(self, text, line):
-        self.text, self.line = text, line
-        self.elements, self.causes, self.more = [], [], None
 
 
 class Step:
     """A tick with what happened since the previous tick, or the time before the first tick or after the last one.
 
     `since` is the log of the commands before the tick; `commands` are the first and the last of their lines and how many began;
-    `boxes` is the difference from the previous step, None if it was left out.
+    `boxes` is the difference from the previous step, None if it was left out. `moments` are pairs: from this place of `log` on, the boxes are
+    those of the moment before with this difference; the first one is relative to the end of the previous step.
     """
 
     def __init__(self, kind):
@@ -59,51 +50,81 @@ class Step:
         self.commands = (0, 0, 0)
         self.kept, self.not_kept = 0, 0   # commands of handlers
         self.lines_not_kept = 0
-        self.boxes = None
+        self.boxes, self.moments = None, []
 
     def begin_command(self, line):
         first, _, count = self.commands
         self.commands = (first or line, line, count + 1)
 
 
-class _NotingWorld(World):
-    """A world that knows whether a box or a scroll position may have changed since it was last asked."""
+class _Tasks(list):
+    """The tasks of a world; `note` is called when intersections have been found."""
 
-    def __init__(self, version):
-        World.__init__(self, version)
+    def __init__(self, note):
+        list.__init__(self)
+        self.note = note
+
+    def append(self, task):
+        list.append(self, task)
+        if task.handler is None:
+            self.note()
+
+
+class _NotingWorld(KeptWorld):
+    """A world that knows whether a box or a scroll position may have changed since the last step, and since the last moment."""
+
+    def __init__(self, version, note):
+        KeptWorld.__init__(self, version)
+        self.tasks = _Tasks(note)
         self.has_changed = self.has_scrolled = True
+        self.is_new, self.is_other, self.resized_now = True, True, set()     # since the last moment: anything, the whole layout, sizes
 
     def changed(self):
-        self.has_changed = True
-        World.changed(self)
+        self.is_new = True
+        KeptWorld.changed(self)
+        self.resized_now |= self.resized
+
+    def forget_all(self):
+        self.has_changed = self.is_other = True
 
     def scrolled(self):
-        self.has_scrolled = True
-        World.scrolled(self)
+        self.has_scrolled = self.is_new = True
+        KeptWorld.scrolled(self)
+
+    def begin_moments(self):
+        """Moments begin with what has changed since the last step."""
+        self.is_other, self.resized_now = self.has_changed, set(self.resized)
+
+    def end_moment(self):
+        self.is_new, self.is_other, self.resized_now = False, False, set()
+
+    def end_step(self):
+        self.has_changed = self.has_scrolled = False
+        self.resized = set()
 
 
-class Recording(Page):
+class Recording(CausedPage):
     """The page whose run is recorded; it also serves bin/explain as a run of the reference. `first` is the number of the first tick
     that is kept; `say` is called now and then with the number of ticks that have run."""
     seconds, failure = SECONDS, None
 
     def __init__(self, script, first=1, say=lambda ticks: None):
-        Page.__init__(self, script, None)
-        self.world = _NotingWorld(script.version)
+        CausedPage.__init__(self, script, boxes.Things())
+        self.world = _NotingWorld(script.version, self._note_meetings)
         self.first, self.say = first, say
-        self.things = boxes.Things()
         self.things.document(self.world.top)
-        self.causes = Causes(self)
         self.steps, self.ended, self.ticks = [], True, 0       # ticks that ended
         self.status, self.page = None, self
         self.boxes_left_out_from = None
         self.packed, self.differences = None, 0
+        self.moment, self.boxes_of_moments, self.no_moments_from = None, 0, None
+        self.met_at = -1                                       # the moment of its tick in which intersections were found last
         self.last_tick = None                                  # (number, State) of the last one whose boxes are kept
         self.level, self.running = None, None                  # in a handler: how deep, and its command's item
         self.last_entry = None
-        self.told, self.lines_left_out = [], 0                 # the whole trace, for explanations
-        self.begun_by_line = Counter()
+        self.lines_left_out = 0                                # `told` is the whole trace, for explanations
         self._forget()
+        self.looks_at_the_clock = -1
         self.next_say = time.process_time() + 1
         self.end_of_time = self.next_say + SECONDS
 
@@ -155,6 +176,32 @@ class Recording(Page):
             self._begin_step(TICK)
         self.step.kind, self.step.line = TICK, command.line
         self.log = self.step.log
+        self.moment, self.met_at = self.packed, -1
+        self.world.begin_moments()
+        self._note_moment()
+
+    def _note_moment(self):
+        """Notes the boxes within a tick if they may have changed."""
+        if not self.world.is_new or self.is_beyond or self.ticks < self.first - 1 or self.boxes_left_out_from is not None:
+            return
+        if self.no_moments_from is not None:
+            return
+        world = self.world
+        packed = None if world.is_other else boxes.followed_state(world, self.things, self.moment, world.resized_now)
+        if packed is None:
+            self.boxes_of_moments += 1 + world.elements_made
+            if self.boxes_of_moments > MOST_OF_MOMENTS:
+                self.no_moments_from = self.ticks + 1
+                return
+            packed = boxes.state(world, self.things)
+        changed = boxes.difference(self.moment, packed)
+        world.end_moment()
+        if changed:
+            self.step.moments.append([len(self.log), changed])
+            self.moment = packed
+
+    def _note_meetings(self):
+        self.met_at = len(self.step.moments) - 1
 
     def _end_tick(self):
         is_kept = self.ticks >= self.first - 1
@@ -178,9 +225,13 @@ class Recording(Page):
         step.boxes = {}
         world = self.world
         is_rescaled = self.packed is not None and self.packed.ratio != world.pixel_ratio
-        if not (is_rescaled or world.has_changed or world.has_scrolled or self.causes.stirred):
+        if not (is_rescaled or world.has_changed or world.has_scrolled or world.resized or self.causes.stirred):
             return
-        packed = None if world.has_changed else boxes.scrolled_state(world, self.things, self.packed)
+        packed = None
+        if step.kind == TICK and not world.is_new and self.moment is not None:
+            packed = boxes.observed_again(world, self.things, self.moment)       # no box has changed since the last moment
+        elif not world.has_changed:
+            packed = boxes.followed_state(world, self.things, self.packed, world.resized)
         if packed is None:
             packed = boxes.state(world, self.things)
         step.boxes = boxes.difference(self.packed, packed)
@@ -188,13 +239,19 @@ class Recording(Page):
         if self.differences > MOST_DIFFERENCES and self.packed is not None:
             self.boxes_left_out_from, step.boxes = step.number, None
         self.packed = packed
-        world.has_changed = world.has_scrolled = self.causes.stirred = False
+        world.end_step()
+        self.causes.stirred = False
 
     def _note_last_tick(self):
         if self.steps[-1].kind == TICK and self.steps[-1].boxes is not None:
             self.last_tick = (self.steps[-1].number, self.packed)
 
     def begin(self, command):
+        self.looks_at_the_clock += 1
+        if self.looks_at_the_clock % COMMANDS_BETWEEN_LOOKS:
+            Page.begin(self, command)
+            self.begun_by_line[command.line] += 1
+            return
         now = time.process_time()
         if now > self.end_of_time:
             raise TooLong
@@ -246,6 +303,7 @@ class Recording(Page):
         finally:
             self.level -= 1
             self.running = outer
+            self._note_moment()
 
     def _note_command(self, command):
         """The command's item, which is kept if there is room for it."""
@@ -269,10 +327,7 @@ class Recording(Page):
             self.running[4] = int(held)
         return held
 
-    def do(self, command):
-        self.causes.before(command)
-        Page.do(self, command)
-        changes = self.causes.after(command)
+    def note_changes(self, command, changes):
         if changes and self.running is not None:
             self.running[5] = changes
         elif changes:
@@ -280,14 +335,21 @@ class Recording(Page):
 
     # --- lines of the trace ---------------------------------------------------------------------------------------------------
 
-    def tell(self, text, about=None):
-        is_resize = isinstance(about, tuple) and isinstance(about[1], ResizeEntry)
-        self.told.append(Told(text, self.line, None if is_resize else about))
-        line = Line(text, self.line)
-        self.causes.explain(line, about)
+    def keep(self, told):
+        self.told.append(told)
+        if isinstance(told.about, tuple):
+            told.more = self._meeting(told.about[1])
         if self.is_beyond or len(self.lines) >= MOST_LINES:
             self.lines_left_out += 1
             self.step.lines_not_kept += 1
             return
         self._keep(['line', len(self.lines)])
-        self.lines.append(line)
+        self.lines.append(told)
+
+    def _meeting(self, entry):
+        """What a line `intersect` was found with: the moment, the root's rectangle with margins and without, the clips and what is left."""
+        if not entry.clips:
+            return ['met', self.met_at, None, None, [], None]
+        root = entry.clips[-1]
+        clips = [[clip.rectangle, clip.own or clip.rectangle] for clip in entry.clips[1:-1]]
+        return ['met', self.met_at, root.rectangle, root.own, clips, common_part([clip.rectangle for clip in entry.clips])]

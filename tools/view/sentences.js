@@ -1,5 +1,5 @@
 'use strict';
-// A line of the trace as a sentence, with the lines of the script that caused it.
+// Gives to others: `Sentences`, a line of the trace as a sentence, with the lines of the script that caused it.
 
 const MOST_CAUSES = 3;
 const MOST_LEFT = 10;            // undelivered observations of a loop error
@@ -51,7 +51,7 @@ class Sentences {
     return this.code(at, elements.length === 1 ? elements[0] : -1);
   }
   delivery(line, words) {
-    const more = this.trace.more(line), box = more ? more[1] : 'content';
+    const more = this.trace.more(line) && this.trace.more(line)[0] === 'told' ? this.trace.more(line) : null, box = more ? more[1] : 'content';
     const size = { content: words.slice(6, 8), border: words.slice(9, 11), device: words.slice(12, 14) }[box].join(' \u00d7 ');
     const before = !more ? '' : more.length > 2 ? `previously ${toldSize(box, more[2], more[3])}` : 'for the first time';
     return html`${bold(words[1])} reports ${this.target(line, words[2])}: ${sized(size)} ${OBSERVED[box]}${before && html`, <span class="before">${before}</span>`}`;
@@ -97,8 +97,8 @@ class Sentences {
 
   // ---- commands of handlers ----
 
-  command([, line, level, target, how, sizes]) {
-    return html`<li class="command" style="--level:${level}">${this.ref(line)} ${this.code(line, target)} ${this.how(line, how)}${
+  command([, line, level, target, how, sizes], mark = '') {
+    return html`<li class="command" ${mark} style="--level:${level}">${this.ref(line)} ${this.code(line, target)} ${this.how(line, how)}${
       sizes.length > 0 && this.sizes(sizes)}</li>`;
   }
   how(line, how) {

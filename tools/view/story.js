@@ -1,5 +1,6 @@
 'use strict';
-// A tick in words: what happened in it, in order.
+// Gives to others: `Story`, a tick in words: what happened in it, in order. What can be chosen has `data-line`, or `data-moment`: the place
+// of an item in the log of its tick.
 
 const MOST_SHOWN = 40;           // items of a group before a button for the others
 const MOST_OUTSIDE = 12;         // up to this many, all commands before a tick are shown
@@ -72,6 +73,7 @@ class Story {
   // ---- what the page shows ----
 
   told(step, chosen) {
+    this.places = new Map(step.log.map((item, place) => [item, place]));
     const parts = this.phases(step.log).map(phase => phase.title === LOOP ? this.loop(phase, chosen) : this.phase(phase, chosen));
     const isQuiet = !parts.length && step.kind === 'tick' && !step.linesNotKept;
     return html`${this.sinceBefore(step, chosen)}${parts}${isQuiet && html`<p class="after">${NOTHING}</p>`}${
@@ -94,10 +96,15 @@ class Story {
         : this.round(round, ++count, chosen))}</section>`;
   }
   round({ items, depth, ended }, count, chosen) {
-    return html`<div class="round"><h4>Round ${count}</h4><ol class="items">${this.some(items, chosen)}</ol>${
+    return html`<div class="round"><h4 ${this.moment(items[0], 0)}>Round ${count}</h4><ol class="items">${this.some(items, chosen)}</ol>${
       ended < 0 ? html`<p class="after">The loop was cut short here: its document ended, a limit was met, or the run was stopped.</p>`
         : html`<p class="after" ${this.mark(ended, chosen)}>The least depth delivered is ${depth}: another round delivers only what is deeper. <code class="trace">${
           this.trace.text(ended)}</code></p>`}</div>`;
+  }
+  // The mark of an item at which the page can be drawn: as it begins, or for 1 as the command has run.
+  moment(item, after) {
+    const place = this.places && this.places.get(item);
+    return place === undefined ? '' : html`data-moment="${place + after}" tabindex="-1"`;
   }
   mark(line, chosen) {
     return html`data-line="${line}" tabindex="${line === chosen ? 0 : -1}"${line === chosen && html` aria-current="true"`}`;
@@ -114,7 +121,8 @@ class Story {
   item(item, chosen, before) {
     if (item.call) return this.call(item, chosen);
     if (item[0] === 'line') return this.line(item[1], chosen, Boolean(before) && before[0] === 'command' && before[1] === this.trace.ranAt(item[1]));
-    return item[0] === 'entry' ? html`<li class="entry">for ${this.sentences.thing(item[1])}</li>` : this.sentences.command(item);
+    if (item[0] === 'entry') return html`<li class="entry" ${this.moment(item, 0)}>for ${this.sentences.thing(item[1])}</li>`;
+    return this.sentences.command(item, this.moment(item, 1));
   }
   call({ call, line, items }, chosen) {
     const isEmpty = !items.some(one => one[0] === 'command');
@@ -126,7 +134,15 @@ class Story {
     const left = isOwn ? ['threw', 'met it', 'wrote it'] : ['threw', 'met it'], explanation = this.trace.explanation(line);
     const causes = this.trace.causes(line).filter(([, said]) => !left.includes(said));
     return html`<li class="line" ${this.mark(line, chosen)}>${this.said(line, isOwn)}${causes.length > 0 && this.sentences.causes(causes)}<code class="trace">${
-      this.trace.text(line)}</code>${explanation.length > 0 && this.why(explanation, this.trace.isTroubleLine(line))}</li>`;
+      this.trace.text(line)}</code>${explanation.length > 0 && this.why(explanation, this.trace.isTroubleLine(line))}${this.inEngine(line)}</li>`;
+  }
+  // What an engine does differently at a line, if one was asked for.
+  inEngine(line) {
+    if (!this.trace.data.as) return '';
+    const { name } = this.trace.data.as, one = this.trace.differs(line), known = { changed: 'another line', missing: 'no such line', moved: 'at another place' };
+    const part = (said, explanation) => html`<details class="why engine"><summary>${said}</summary><div class="explained">${explained(explanation)}</div></details>`;
+    return html`${one && part(html`In ${bold(name)}: ${known[one[0]]} ${one[0] === 'changed' && html`<code class="trace">${one[1]}</code>`}`, one[2])}${
+      this.trace.added(line).map(([text, explanation]) => part(html`Only in ${bold(name)}: <code class="trace">${text}</code>`, explanation))}`;
   }
   said(line, isOwn) {
     const kind = isOwn ? this.trace.kind(line) : '';

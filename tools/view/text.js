@@ -1,5 +1,5 @@
 'use strict';
-// Text for the page. All of it goes through `html`, which escapes the values that it is given.
+// Gives to others: `html` and `shown`, text for the page, and words for numbers. All of it goes through `html`, which escapes the values that it is given.
 
 class Html { constructor(text) { this.text = text; } }
 const ESCAPES = { '&': '&amp;', '<': '&lt;', '>': '&gt;', '"': '&quot;', "'": '&#39;' };

@@ -1,5 +1,5 @@
 'use strict';
-// The lines of the trace, and summaries of those of a tick.
+// Gives to others: `Trace`, the lines of the trace by number, and summaries of those of a tick.
 
 const COUNTED = { round: 'rounds', resize: 'sizes', intersect: 'meetings', throw: 'throws', limit: 'limits', timer: 'callbacks',
   frame: 'callbacks', task: 'callbacks', syntax: 'faults', say: 'words', read: 'words', take: 'words' };
@@ -15,6 +15,17 @@ class Trace {
   causes(line) { return this.data.lines[line][3] || []; }
   more(line) { return this.data.lines[line][4] || null; }
   explanation(line) { return this.data.lines[line][5] || []; }
+  // What was found for a line `intersect`: the moment, the root's rectangle with its margin and without, the clips, and what is left.
+  meeting(line) {
+    const more = line < 0 ? null : this.more(line);
+    if (!more || more[0] !== 'met') return null;
+    const [, moment, root, own, clips, cut] = more;
+    return { moment, root, own, clips, cut };
+  }
+  // What an engine writes in place of a line, and what only it writes after it.
+  differs(line) { return this.data.as && this.data.as.lines[line]; }
+  added(line) { return this.data.as && this.data.as.added[line] || []; }
+  differences(step) { return this.linesOf(step).reduce((all, line) => all + (this.differs(line) ? 1 : 0) + this.added(line).length, 0); }
   isError(line) { return this.text(line).startsWith('event error'); }
   isTroubleLine(line) { return this.isError(line) || ['throw', 'limit', 'syntax'].includes(this.kind(line)); }
   name(element) { return this.data.elements[element][0]; }
@@ -45,7 +56,7 @@ class Trace {
       faults && ['bad', 'not a script'], limits && ['bad', 'limit'], errors && ['bad', errors > 1 ? `${errors} loop errors` : 'loop error'],
       throws && ['odd', counted(throws, 'exception')], rounds && ['', counted(rounds, 'round')],
       sizes && !rounds && ['', counted(sizes, 'size')], events && ['', counted(events, 'event')],
-      meetings && ['', counted(meetings, 'intersection')], callbacks && ['', counted(callbacks, 'callback')],
+      this.differences(step) && ['odd', `${this.data.as.name} differs`], meetings && ['', counted(meetings, 'intersection')], callbacks && ['', counted(callbacks, 'callback')],
       step.linesNotKept && ['', 'lines left out'],
     ].filter(Boolean);
     return found.length ? found : [['quiet', step.kind === 'tick' ? 'nothing' : counted(step.commands[2], 'command')]];

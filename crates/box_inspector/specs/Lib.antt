@@ -1,3 +1,4 @@
 pub mod Boxes
+pub mod Clips
 pub mod BoxText
 pub mod Ranges

@@ -4,11 +4,13 @@ ghost use Rattle.std.specs.Prelude.{◌≡◌, ◌++◌, map, true, All, IfOk, O
 ghost use Rattle.page_model.specs.Shown.{shown_of, has_box};
 ghost use Rattle.page_state.specs.Boxes.{Computes};
 ghost use Rattle.box_inspector.specs.Boxes.{box_line, box_list, boxed_elements};
+ghost use Rattle.box_inspector.specs.Clips.{AreClips};
 ghost use Rattle.box_inspector.specs.Ranges.{BoxReaches};
 
 use crate::boxed::elements;
 use crate::lines::BoxLine;
 use crate::seen::{place, seen_part};
+use common_clips::CommonClips;
 use element_tree::{DocumentId, NodeId};
 use event_tables::EventTarget;
 use page_geometry::Shown;
@@ -18,18 +20,26 @@ use std::sync::ledger::Ledger;
 use step_count::Steps;
 
 // Returns the record of an element's box.
-fn box_line(page: &Page, shown: &Shown<'_>, node: NodeId) -> BoxLine
+fn box_line(
+    page: &Page,
+    shown: &Shown<'_>,
+    node: NodeId,
+    clips: &mut CommonClips,
+) -> Result<BoxLine, AllocError>
     requires shown { shown.now ≡ shown_of page.now.world }
     requires boxed { has_box shown.now node.0 ≡ true }
-    ensures value { result ≡ box_line page.now.world node.0 }
-    ensures reach { BoxReaches result }
+    requires clips { AreClips shown.now clips.old.inside }
+    ensures value { IfOk result (λ line. line ≡ box_line page.now.world node.0) }
+    ensures reach { IfOk result BoxReaches }
+    ensures clips { AreClips shown.now clips.new.inside }
 {
-    BoxLine {
+    let seen = seen_part(shown, node, clips)?;
+    Ok(BoxLine {
         name: page.label(Label::Target(EventTarget::Node(node))),
         depth: shown.page().depth(node),
         place: place(shown, node),
-        seen: seen_part(shown, node),
-    }
+        seen,
+    })
 }
 
 // Appends the boxes of some elements.
@@ -37,16 +47,20 @@ fn push_boxes(
     page: &Page,
     shown: &Shown<'_>,
     nodes: &[NodeId],
+    clips: &mut CommonClips,
     lines: &mut Vec<BoxLine>,
 ) -> Result<(), AllocError>
     requires shown { shown.now ≡ shown_of page.now.world }
     requires boxed { All (λ node. has_box shown.now node.0 ≡ true) nodes.now }
+    requires clips { AreClips shown.now clips.old.inside }
     requires reach { All BoxReaches lines.old.items }
+    ensures clips { AreClips shown.now clips.new.inside }
     ensures pushed { OnOk result (lines.new.items ≡ lines.old.items ++ map (λ node. box_line page.now.world node.0) nodes.now) }
     ensures reach { OnOk result (All BoxReaches lines.new.items) }
 {
     for node in nodes {
-        lines.push(box_line(page, shown, *node))?;
+        let line = box_line(page, shown, *node, clips)?;
+        lines.push(line)?;
     }
     Ok(())
 }
@@ -57,15 +71,18 @@ fn push_document(
     page: &Page,
     shown: &Shown<'_>,
     document: DocumentId,
+    clips: &mut CommonClips,
     lines: &mut Vec<BoxLine>,
 ) -> Result<(), AllocError>
     requires shown { shown.now ≡ shown_of page.now.world }
+    requires clips { AreClips shown.now clips.old.inside }
     requires reach { All BoxReaches lines.old.items }
+    ensures clips { AreClips shown.now clips.new.inside }
     ensures pushed { OnOk result (lines.new.items ≡ lines.old.items ++ map (box_line page.now.world) (boxed_elements (shown_of page.now.world) document.0)) }
     ensures reach { OnOk result (All BoxReaches lines.new.items) }
 {
     let nodes = elements(alloc, shown, document)?;
-    push_boxes(page, shown, &nodes, lines)
+    push_boxes(page, shown, &nodes, clips, lines)
 }
 
 // Returns the boxes of a page, of which none is due.
@@ -75,9 +92,10 @@ fn list_boxes(alloc: Global, page: &Page, shown: &Shown<'_>) -> Result<Vec<BoxLi
     ensures reach { IfOk result (λ lines. All BoxReaches lines.items) }
 {
     let documents = page.active_documents()?;
+    let mut clips = CommonClips::new(alloc);
     let mut lines = Vec::new(alloc);
     for document in &documents {
-        push_document(alloc, page, shown, *document, &mut lines)?;
+        push_document(alloc, page, shown, *document, &mut clips, &mut lines)?;
     }
     Ok(lines)
 }

@@ -1,6 +1,6 @@
 //! The place and the visible part of a box.
 
-ghost use Rattle.std.specs.Prelude.{◌≡◌, true, IfSome};
+ghost use Rattle.std.specs.Prelude.{◌≡◌, true, IfOk, IfSome};
 ghost use Rattle.page_model.specs.Shown.{has_box, place_of, size_of};
 ghost use Rattle.clip_chain.specs.Ranges.{IsBounds};
 ghost use Rattle.page_model.specs.Chains.{moved_back, origin_of_element};
@@ -8,11 +8,14 @@ ghost use Rattle.page_model.specs.Readings.{rect_of};
 ghost use Rattle.px_units.specs.declared.BoxKind.TheVariants.{Border};
 ghost use Rattle.trace_text.specs.Ranges.{RectReaches};
 ghost use Rattle.box_inspector.specs.Boxes.{seen_part};
+ghost use Rattle.box_inspector.specs.Clips.{AreClips};
 
-use clip_chain::{Geometry, visible_rect};
+use clip_chain::Geometry;
+use common_clips::{CommonClips, visible_rect};
 use element_tree::{Container, DocumentId, NodeId};
 use page_geometry::Shown;
 use px_units::{Rect, shift};
+use std::alloc::AllocError;
 
 /// The viewport of the top document.
 const SCREEN: Container = Container::Document(DocumentId(0));
@@ -28,20 +31,33 @@ fn in_document(shown: &Shown<'_>, node: NodeId, part: Rect) -> Rect
 }
 
 /// Returns the visible part of an element: what the clips between it and the viewport of `top`, and that viewport, leave of
-/// its border box, in the viewport of the element's document (Intersection Observer, 3.2.7). Touching edges count. Doesn't
-/// allocate.
+/// its border box, in the viewport of the element's document (Intersection Observer, 3.2.7). Touching edges count. What is left
+/// within the elements around it is looked up in `clips`, and noted there.
 ///
 /// Requires that the element has a box. All edges, widths and heights lie between -2^50 and 2^50.
-pub fn seen_part(shown: &Shown<'_>, node: NodeId) -> Option<Rect>
-    requires { has_box shown.now node.0 ≡ true }
-    ensures value { result ≡ seen_part shown.now node.0 }
-    ensures reach { IfSome result RectReaches }
+///
+/// # Errors
+///
+/// If an allocation fails.
+pub fn seen_part(
+    shown: &Shown<'_>,
+    node: NodeId,
+    clips: &mut CommonClips,
+) -> Result<Option<Rect>, AllocError>
+    requires boxed { has_box shown.now node.0 ≡ true }
+    requires clips { AreClips shown.now clips.old.inside }
+    ensures value { IfOk result (λ part. part ≡ seen_part shown.now node.0) }
+    ensures reach { IfOk result (λ part. IfSome part RectReaches) }
+    ensures clips { AreClips shown.now clips.new.inside }
 {
     // Yields that chains lead to the viewport of `top`, and a bound on their length.
     shown.document_count();
     let screen = shown.bounds(SCREEN);
-    let part = visible_rect(shown, Container::Element(node), SCREEN, screen)?;
-    Some(in_document(shown, node, part))
+    let visible = visible_rect(shown, Container::Element(node), SCREEN, screen, clips)?;
+    match visible {
+        Some(part) => Ok(Some(in_document(shown, node, part))),
+        None => Ok(None),
+    }
 }
 
 /// Returns the border box of an element in the viewport of its document (CSS 2.2, 8.1), zeros without a box. Doesn't

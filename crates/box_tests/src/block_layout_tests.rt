@@ -3,6 +3,7 @@
 ghost use Rattle.std.specs.Prelude.{◌≡◌, ◌<◌, length};
 
 use crate::elements::{Element, SCREEN, styled};
+use crate::same::same;
 use block_layout::{
     BoxOf, Boxes, FreshBoxes, Inputs, ItemKind, child_inputs, compute_box, fresh_box,
     overflow_reach,
@@ -711,8 +712,13 @@ fn see_box(rt: &impl Abort, alloc: Global, flow: bool, row: BoxRow) -> Result<()
     };
     let found = computed::<Brand>(Blank::new(1), &item, inputs, inside);
     let line = line_of(alloc, &item, inputs, &found)?;
-    assert_eq!(rt; line.as_str(), wanted, "{declarations}");
-    assert_eq!(rt; found.size(BoxKind::Device), found.size(BoxKind::Content));
+    same(rt, &line.as_str(), &wanted, declarations);
+    same(
+        rt,
+        &found.size(BoxKind::Device),
+        &found.size(BoxKind::Content),
+        declarations,
+    );
     Ok(())
 }
 
@@ -817,7 +823,7 @@ fn see_element(
     assert!(rt; tree.holds(node));
     let (_, _, declarations, wanted) = ELEMENTS[number];
     let line = report(alloc, tree, boxes, node)?;
-    assert_eq!(rt; line.as_str(), wanted, "{declarations}");
+    same(rt, &line.as_str(), &wanted, declarations);
     Ok(())
 }
 
@@ -851,7 +857,7 @@ fn see_reach(
 ) {
     assert!(rt; tree.holds(ROOT));
     let reach = overflow_reach(tree, boxes, ROOT, Some(view));
-    assert_eq!(rt; (reach.width, reach.height), wanted);
+    same(rt, &(reach.width, reach.height), &wanted, "the reach");
 }
 
 // Takes the box of an element away, with those in it.
@@ -861,7 +867,7 @@ fn hide(rt: &impl Abort, tree: &mut Tree<Element>, boxes: &mut FreshBoxes) {
     assert!(rt; item.set("display", "none"));
     fill(rt, boxes, tree);
     for number in 3..20 {
-        assert_eq!(rt; boxes.box_of(NodeId(number)), None);
+        same(rt, &boxes.box_of(NodeId(number)), &None, "no box");
     }
     assert!(rt; boxes.box_of(NodeId(2)).is_some());
 }
@@ -894,7 +900,7 @@ fn measured(rt: &impl Abort, tree: &Tree<Element>) -> BoxOf {
 
 fn see_content(rt: &impl Abort, found: &BoxOf, wanted: (i64, i64)) {
     let content = found.size(BoxKind::Content);
-    assert_eq!(rt; (content.width, content.height), wanted);
+    same(rt, &(content.width, content.height), &wanted, "the content");
 }
 
 // A root element, which counts as static, with children of 10, 40 and 30 pixels stacked in it, the second with 10 in itself. What is

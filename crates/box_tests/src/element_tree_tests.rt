@@ -1,4 +1,5 @@
 //! Edits of a tree of ten nodes, with the lists of children that DOM's rules give.
+use crate::same::same;
 use element_tree::{NodeId, Tree, TreeFault};
 use std::alloc::Global;
 use std::process::Abort;
@@ -55,8 +56,13 @@ fn push_children(
         let Some(child) = next else {
             break;
         };
-        assert_eq!(rt; tree.parent(child), Some(node));
-        assert_eq!(rt; tree.previous_sibling(child), previous);
+        same(rt, &tree.parent(child), &Some(node), "the parent");
+        same(
+            rt,
+            &tree.previous_sibling(child),
+            &previous,
+            "the sibling before",
+        );
         text.push_str(format!(in alloc; "{}", child.0)?.as_str())?;
         previous = next;
         next = tree.next_sibling(child);
@@ -80,14 +86,14 @@ fn push_shape(
 fn see_shape(rt: &impl Abort, alloc: Global, tree: &Tree<u32>, children: &str) -> Result<(), Fail> {
     let mut shape = String::new(alloc);
     push_shape(rt, &mut shape, alloc, tree)?;
-    assert_eq!(rt; shape.as_str(), children);
+    same(rt, &shape.as_str(), &children, "the lists of children");
     Ok(())
 }
 
 fn add_ten(rt: &impl Abort, tree: &mut Tree<u32>) {
     for number in 0..10 {
         match tree.add(100 + number) {
-            Ok(node) => assert_eq!(rt; node, NodeId(number)),
+            Ok(node) => same(rt, &node, &NodeId(number), "a node"),
             Err(_) => assert!(rt; false, "no node {number}"),
         }
     }
@@ -128,7 +134,7 @@ const STEPS: [Step; 27] = [
 
 fn take_steps(rt: &impl Abort, alloc: Global, tree: &mut Tree<u32>) -> Result<(), Fail> {
     for (edit, answered, children) in STEPS {
-        assert_eq!(rt; apply(rt, tree, edit), answered, "before {children}");
+        same(rt, &apply(rt, tree, edit), &answered, children);
         see_shape(rt, alloc, tree, children)?;
     }
     Ok(())
@@ -148,18 +154,33 @@ fn measures(rt: &impl Abort, tree: &Tree<u32>) {
     let depths = [1, 2, 1, 1, 3, 4, 2, 3, 2, 1];
     let heights = [2, 1, 4, 1, 2, 1, 3, 1, 1, 1];
     for number in 0..10 {
-        assert_eq!(rt; tree.depth(NodeId(number)), depths[number as usize]);
-        assert_eq!(rt; tree.height(NodeId(number)), heights[number as usize]);
+        same(
+            rt,
+            &tree.depth(NodeId(number)),
+            &depths[number as usize],
+            "a depth",
+        );
+        same(
+            rt,
+            &tree.height(NodeId(number)),
+            &heights[number as usize],
+            "a height",
+        );
     }
     for (ancestor, node, is) in [(2, 5, true), (5, 2, false), (5, 5, true), (1, 5, false)] {
-        assert_eq!(rt; tree.is_ancestor(NodeId(ancestor), NodeId(node)), is);
+        same(
+            rt,
+            &tree.is_ancestor(NodeId(ancestor), NodeId(node)),
+            &is,
+            "an ancestor",
+        );
     }
 }
 
 // A tree for one node, before the node is made.
 fn see_making(rt: &impl Abort, small: &mut Tree<u32>) -> Result<(), Fail> {
     assert!(rt; !small.holds(NodeId(0)));
-    assert_eq!(rt; small.reserve()?, NodeId(0));
+    same(rt, &small.reserve()?, &NodeId(0), "the first number");
     assert!(rt; !small.holds(NodeId(0)));
     assert!(rt; small.add(7).is_ok());
     assert!(rt; small.holds(NodeId(0)));
@@ -176,7 +197,7 @@ fn see_payload(rt: &impl Abort, small: &mut Tree<u32>) {
     let payload = small.payload_mut(NodeId(0));
     *payload = payload.saturating_add(2);
     assert!(rt; small.holds(NodeId(0)));
-    assert_eq!(rt; *small.payload(NodeId(0)), 9);
+    same(rt, small.payload(NodeId(0)), &9, "the payload");
 }
 
 #[test]

@@ -5,6 +5,7 @@ ghost use Rattle.std.specs.Prelude.{◌≡◌, ◌<◌, length, true, None};
 ghost use Rattle.element_tree.specs.Forest.{parent_of};
 
 use crate::elements::{Element, SCREEN, styled};
+use crate::same::same;
 use block_layout::{Boxes, Inputs, ItemKind, is_block, is_hidden};
 use element_tree::{NodeId, Tree, TreeFault};
 use kept_layout::Kept;
@@ -361,7 +362,12 @@ fn places_are_those_of_the_reference(rt: HostRuntime) -> Result<(), Fail> {
     plant(&rt, &mut random, &mut tree);
     for wanted in ROUNDS {
         let seen = sum_round(&rt, &mut random, &mut tree, &mut kept);
-        assert_eq!(rt; (seen.boxes, seen.left, seen.top), wanted);
+        same(
+            &rt,
+            &(seen.boxes, seen.left, seen.top),
+            &wanted,
+            "how many boxes, and sums of their places",
+        );
     }
     Ok(())
 }
@@ -382,12 +388,12 @@ fn add(rt: &impl Abort, tree: &mut Tree<Element>, parent: NodeId, declaration: &
 fn see_content(rt: &impl Abort, kept: &Kept, node: NodeId, wanted: (i64, i64)) {
     assert!(rt; kept.box_of(node).is_some());
     let content = kept.size_of(node, BoxKind::Content);
-    assert_eq!(rt; (content.width, content.height), wanted);
+    same(rt, &(content.width, content.height), &wanted, "the content");
 }
 
 fn see_place(rt: &impl Abort, tree: &Tree<Element>, kept: &Kept, node: NodeId, wanted: (i64, i64)) {
     let place = kept.flat_place_of(tree, node);
-    assert_eq!(rt; (place.left, place.top), wanted);
+    same(rt, &(place.left, place.top), &wanted, "the place");
 }
 
 // A root element, and lines of one pixel for all other elements.

@@ -1,5 +1,6 @@
 //! Lengths at the bound.
 
+use crate::same::same;
 use layout_model::capped;
 
 /// The largest length in 1/64 pixel, as `docs/DECISIONS.md` says.
@@ -15,6 +16,6 @@ fn lengths_are_cut_to_the_largest(rt: HostRuntime) {
         (u64::MAX, LARGEST),
     ];
     for (units, wanted) in rows {
-        assert_eq!(rt; capped(units), wanted);
+        same(&rt, &capped(units), &wanted, "a length that is cut");
     }
 }

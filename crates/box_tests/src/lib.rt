@@ -16,3 +16,5 @@ mod layout_model_tests;
 mod number_map_tests;
 #[cfg(test)]
 mod readme_examples;
+#[cfg(test)]
+mod same;

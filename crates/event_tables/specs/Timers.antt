@@ -1,5 +1,5 @@
 -- Timers that are handed out (HTML, timers).
-use Rattle.std.specs.Prelude.{ℕ, Bool, List, Option, Some, None}
+use Rattle.std.specs.Prelude.{ℕ, Bool, List, Option, Some, None, min, fold}
 use Rattle.page_model.specs.World.{FrameCallback, Timer, Table}
 use Rattle.page_model.specs.Timers.{timer_stands, timer_taken}
 
@@ -24,3 +24,12 @@ once_handed (Some callback) timers = timer_taken (callback.serial) timers
 -- what is returned of a timer that is handed out: its document, its key and its handler
 abbrev pub told : FrameCallback → ℕ × List ℕ × ℕ
 told callback = (callback.document, callback.key, callback.handler)
+
+-- the earlier of two times, of which the first may be missing
+abbrev pub sooner : Option ℕ → ℕ → Option ℕ
+sooner None time = Some time
+sooner (Some first) time = Some (min first time)
+
+-- the earliest time at which a timer is due, if there are timers
+abbrev pub soonest : Table Timer → Option ℕ
+soonest timers = fold (λ time (timer : Timer). sooner time timer.due) None (timers.held)

@@ -1,9 +1,10 @@
 //! Queued tasks.
 
-ghost use Rattle.std.specs.Prelude.{◌≡◌, [], not, option_map, OnOk, OnErr};
+ghost use Rattle.std.specs.Prelude.{◌≡◌, List, [], Some, not, option_map, OnOk, OnErr};
 ghost use Rattle.event_tables.specs.Answers.{Queues};
 ghost use Rattle.event_tables.specs.Seen.{seen_task};
 ghost use Rattle.page_model.specs.Tasks.{with_task};
+ghost use Rattle.page_model.specs.World.{Task as ModelTask};
 ghost use Rattle.event_tables.specs.Tasks.{has_room, may_queue, first_of, others_of};
 
 use crate::events::is_posted;
@@ -83,6 +84,19 @@ impl Tasks {
         ensures left { self.new ≡ record self.old { part = others_of (self.old.part) } }
     {
         let task = self.waiting.pop_front()?;
+        if is_posted(task) {
+            self.posted -= 1;
+        }
+        Some(task)
+    }
+    /// Takes back the task that was queued last, and returns it. `None` exactly when no task is queued.
+    pub fn take_back(&mut self) -> Option<Task>
+        ensures value { (others : List ModelTask) (task : ModelTask) → self.old.part ≡ with_task task others → option_map seen_task result ≡ Some task }
+        ensures left { (others : List ModelTask) (task : ModelTask) → self.old.part ≡ with_task task others → self.new ≡ record self.old { part = others } }
+        ensures none { self.old.part ≡ [] → self.new ≡ self.old }
+        ensures limit { self.new ≡ record self.old { part = self.new.part } }
+    {
+        let task = self.waiting.pop_back()?;
         if is_posted(task) {
             self.posted -= 1;
         }

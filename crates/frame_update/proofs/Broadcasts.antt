@@ -9,7 +9,7 @@ use Rattle.page_model.specs.World.{World, Observation, ResizeObserver}
 use Rattle.page_model.specs.Lookups.{resize_observer_at}
 use Rattle.page_model.specs.Documents.{is_active}
 use Rattle.page_model.specs.Gathering.{SizeEntry, sight_of, size_entry, with_reported, due_at}
-use Rattle.page_model.specs.Ranges.{counts_of}
+use Rattle.page_model.specs.Ranges.{counts_of, IsInRange}
 use Rattle.page_model.specs.Runs.{Said, silent, lifted, ◌followed_by◌}
 use Rattle.page_model.specs.Callbacks.{Script, SizeEntries, call}
 use Rattle.page_model.specs.Loop.{Broadcast, shallower, emptied, deliver, deliver_some, broadcast}
@@ -150,12 +150,12 @@ module _ (document place : ℕ) (world new : World) (delivery : Delivery) (hande
       subst (λ (now : World). delivery.observer.0 < length now.resize_observers.made) (sym reported-is)
       (subst (λ (count : ℕ). delivery.observer.0 < count) (sym (reported-next world (sight_of world) (delivery.observer.0) active).observers) handed.made)
 
-  pub handed_entries : (script : List Item) → IsPrepared script world → AreEntriesIn new (delivery.entries)
-  handed_entries script ready =
+  pub handed_entries : (handlers : ℕ) → IsInRange handlers world → AreEntriesIn new (delivery.entries)
+  handed_entries handlers within =
       subst (λ (now : World). AreEntriesIn now (delivery.entries)) (sym reported-is)
       (subst (λ (entries : List ResizeEntry). AreEntriesIn reported entries) (sym handed.entries)
       (all-mapped (λ (each : Observation). each.target < length world.tree.elements) (λ (entry : ResizeEntry). entry.target.0 < length world.tree.elements)
-      (λ observation. as_entry (size_entry (sight_of world) observation)) (λ each is. is) active (active_in (counts_of (length (handlers_in script)) world) world (delivery.observer.0) ready.range)))
+      (λ observation. as_entry (size_entry (sight_of world) observation)) (λ each is. is) active (active_in (counts_of handlers world) world (delivery.observer.0) within)))
 
 pub handed_out : (document place : ℕ) (world new : World) (next : Option Delivery) (delivery : Delivery) → next ≡ Some delivery → option_map turn_of next ≡ next_turn document place world
     → IfSome next (λ it. it.entries ≡ entries_in (sight_of world) (active_at (world.resize_observers) (it.observer.0))) → new ≡ once_reported (next_turn document place world) world

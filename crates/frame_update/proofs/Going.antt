@@ -18,15 +18,15 @@ use Rattle.frame_update.specs.declared.run.Run.{Run}
 module _ {K L A : Type 0} {taken : K → Option (List ℕ)} {faults : K → ℕ} {old new : Run K L} {said : Said World} where
   -- the fault is that of the step
   pub stopped : (result : Result A RunFault) (fault : RunFault) → IsErr result × IsErrAnd result (λ (it : RunFault). it ≡ fault) → new.script ≡ old.script
-      → loans_of new ≡ loans_of old
+      → loans_of new ≡ loans_of old → IsUnderWay new
       → Runs {A = A} goes_on (world_of new) (Err fault) (taken old.sink.now) (taken new.sink.now) (faults old.sink.now) (faults new.sink.now) said
       → Goes taken faults old new result said
-  stopped (Ok value) fault is script lent run = absurd (cc)
-  stopped (Err it) fault is script lent run = record {
+  stopped (Ok value) fault is script lent ready run = absurd (cc)
+  stopped (Err it) fault is script lent ready run = record {
     says =
         subst (λ (it : RunFault). Runs {A = A} goes_on (world_of new) (Err it) (taken old.sink.now) (taken new.sink.now) (faults old.sink.now) (faults new.sink.now) said)
         (sym is.1) run;
-    ready = tt;
+    ready = ready;
     script = script;
     lent = lent;
   }
@@ -38,10 +38,10 @@ module _ {K L A : Type 0} {taken : K → Option (List ℕ)} {faults : K → ℕ}
   arrived script lent ready run = record { says = run; ready = ready; script = script; lent = lent }
 
   -- it was cut off with this fault
-  pub cut_short : {fault : RunFault} → new.script ≡ old.script → loans_of new ≡ loans_of old
+  pub cut_short : {fault : RunFault} → new.script ≡ old.script → loans_of new ≡ loans_of old → IsUnderWay new
       → Runs {A = A} goes_on (world_of new) (Err fault) (taken old.sink.now) (taken new.sink.now) (faults old.sink.now) (faults new.sink.now) said
       → Goes {A = A} taken faults old new (Err fault) said
-  cut_short script lent run = record { says = run; ready = tt; script = script; lent = lent }
+  cut_short script lent ready run = record { says = run; ready = ready; script = script; lent = lent }
 
   -- it was run by the last step
   pub passed_on : {mid : Run K L} {last : Said World} {result : Result A RunFault} → Goes taken faults mid new result last → mid.script ≡ old.script → loans_of mid ≡ loans_of old
@@ -123,5 +123,5 @@ module _ {K L : Type 0} {taken : K → Option (List ℕ)} {faults : K → ℕ} {
       → kept_of mid ≡ kept_of now → (next : Script → World → Said World) → rest (handlers_of mid) ≡ (said followed_by next (handlers_of mid)) → (result : Result B RunFault)
       → IsErr result × IsErrAnd result (λ (it : RunFault). it ≡ fault) → Goes taken faults first new result (whole (handlers_of first))
   run_is_cut {mid = mid} {fault = fault} went kept next more result is =
-      stopped result fault is (went.script ∙ script-kept mid kept) (went.lent ∙ lent-kept mid kept)
+      stopped result fault is (went.script ∙ script-kept mid kept) (went.lent ∙ lent-kept mid kept) went.ready
       (over_first whole (script-kept mid kept) (end_cut fault (next (handlers_of mid)) (rest_same more (following-kept mid kept)) went.says))

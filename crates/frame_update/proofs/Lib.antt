@@ -19,5 +19,6 @@ mod Notifying
 mod Delivered
 mod Turns
 mod Broadcasts
+mod Handing
 mod RoundEnds
 mod RoundLoops

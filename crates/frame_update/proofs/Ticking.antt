@@ -1,11 +1,10 @@
 -- A tick that is begun, its time and its parts.
 use Rattle.std.proofs.Common.{◌≡◌, ◌∙◌, ℕ, Bool, true, false, List, [], ◌∷◌, Option, refl, ap, sym, subst}
-use Rattle.std.specs.Prelude.{nat_lt, cond, Result, Ok, Err, IfOk}
+use Rattle.std.specs.Prelude.{nat_lt, cond, Result, Ok, Err}
 use Rattle.text_io.specs.declared.kinds.Version.{Version}
 use Rattle.text_io.specs.Limits.{limit_number}
 use Rattle.text_io.specs.declared.kinds.ThrowKind.{ThrowKind}
 use Rattle.text_io.specs.declared.kinds.ThrowKind.TheVariants.{RangeError}
-use Rattle.script_model.specs.Syntax.{Item}
 use Rattle.script_model.specs.TraceLines.{TickLine, ThrowLine}
 use Rattle.page_model.specs.Callbacks.{Script, answered}
 use Rattle.page_model.specs.Commands.{begun_in}
@@ -26,7 +25,6 @@ use Rattle.trace_runs.proofs.Answered.{answered_did, answered_threw, met_run, on
 use Rattle.trace_runs.proofs.Following.{cut_run, cut_saying, then_run}
 use Rattle.trace_runs.proofs.Runs.{caught_cut, lines_run, run_same, say_run}
 use Rattle.frame_update.specs.Answers.{Refused, IsLeft}
-use Rattle.frame_update.specs.Ready.{IsReady}
 
 -- once the clock was set ------------------------------------------------------------------------------------------------------------
 
@@ -39,11 +37,6 @@ timed_did time old new is = timed-did time old new (nat_lt time old.clock) is
 
 pub clock_is : (time : ℕ) (old new : World) → time_set time old ≡ Did new → new.clock ≡ time
 clock_is time old new is = sym (ap (λ (world : World). world.clock) (timed_did time old new is))
-
--- a page is ready however a call that tells of a refusal ends
-pub ready_told : {A : Type 0} (script : List Item) (world : World) (result : Result A RunFault) → IsReady script world → IfOk result (λ _. IsReady script world)
-ready_told script world (Ok value) ready = ready
-ready_told script world (Err fault) ready = tt
 
 -- what is said ---------------------------------------------------------------------------------------------------------------------
 

@@ -4,6 +4,7 @@
 
 mod events;
 mod frames;
+mod laws;
 mod notify;
 mod rounds;
 mod run;
@@ -13,4 +14,5 @@ mod ticks;
 mod timers;
 mod update;
 
+pub use laws::{more_handlers_leave_a_page_ready, what_is_delivered_can_be_handed};
 pub use ticks::tick;

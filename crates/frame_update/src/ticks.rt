@@ -1,6 +1,6 @@
 //! A tick.
 
-ghost use Rattle.std.specs.Prelude.{◌≡◌, IfOk};
+ghost use Rattle.std.specs.Prelude.{◌≡◌};
 ghost use Rattle.std.specs.List.{AllByRecursion};
 ghost use Rattle.script_model.specs.Syntax.{Tick};
 ghost use Rattle.script_model.specs.Scripts.{handlers_in};
@@ -54,7 +54,7 @@ fn run_timed<'a, K: Sink, L: Ledger>(
     requires time { page.old.world.clock ≡ time }
     ensures says { Runs goes_on page.new.world result (K.taken sink.old) (K.taken sink.new) (K.faults sink.old) (K.faults sink.new)
         (tick (handlers_in script.now.items) page.old.world) }
-    ensures ready { IfOk result (λ _. IsPrepared script.now.items page.new.world) }
+    ensures ready { IsPrepared script.now.items page.new.world }
 {
     let mut run = Run {
         alloc,
@@ -89,7 +89,7 @@ fn refuse<K: Sink>(
 
 /// Runs a tick at a time in milliseconds, at most 1,000,000,000,000: it is counted as a command; a time before the clock's
 /// throws, which is written, and the result is `Ok`. Then come the due timers, one update of the rendering, and the queued
-/// tasks (HTML, event loops).
+/// tasks (HTML, event loops). The page is ready for a next tick, whatever is returned (`IsReady`).
 ///
 /// In each of its resize loops a round is deeper than the one before, unless a command of that round removes an inclusive
 /// ancestor of a target gathered in it from its parent; with m such commands, and H the greatest depth of a target that it
@@ -101,7 +101,7 @@ fn refuse<K: Sink>(
 /// - `Limit` only if a limit is met, and then never `Ok`; every line before the limit's own was written, and the page's world
 ///   is that of the definition at the limit.
 /// - `Memory`, and `WriteFault` only if the sink's fault count rose in this call; either may come before a limit. A prefix of
-///   the lines was written, and nothing is said of the page's world, which may be one inside of a step.
+///   the lines was written, and of the page's world, which may be one inside of a step, only that it is ready is said.
 pub fn tick<K: Sink, L: Ledger>(
     alloc: Global,
     page: &mut Page,
@@ -116,7 +116,7 @@ pub fn tick<K: Sink, L: Ledger>(
     ensures says { Runs goes_on page.new.world result (K.taken sink.old) (K.taken sink.new) (K.faults sink.old) (K.faults sink.new)
         (caught (run_tick (handlers_in script.now.items) line time page.old.world)) }
     ensures loops { AllByRecursion (IsExact (handlers_in script.now.items)) (item_loops (handlers_in script.now.items) (Tick line time) page.old.world) }
-    ensures ready { IfOk result (λ _. IsReady script.now.items page.new.world) }
+    ensures ready { IsReady script.now.items page.new.world }
 {
     listed_loops_are_exact();
     if let Err(fault) = page.begin_command() {

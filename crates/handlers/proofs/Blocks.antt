@@ -1,8 +1,7 @@
 -- Commands by what they are, and the blocks that a walk goes through.
 use Rattle.std.proofs.Common.{◌≡◌, ℕ, ◌+◌, ◌<◌, ◌≤◌, List, length, get_or, drop, refl, ap, sym, subst, ◌∙◌}
 use Rattle.std.proofs.lemmas.List.{drop_more, drop_all}
-use Rattle.std.specs.Prelude.{Option, Result, Ok, Err, IfOk}
-use Rattle.script_model.specs.Syntax.{Block, Then, Command as ModelCommand}
+use Rattle.script_model.specs.Syntax.{Block, Then}
 use Rattle.script_syntax.specs.Allowed.{WhatAllowed, ActionAllowed, TestAllowed}
 use Rattle.script_syntax.specs.Seen.{action_of, command_at, command_of, condition_of, block_of}
 use Rattle.script_syntax.specs.declared.operands.Condition.{Condition}
@@ -16,14 +15,6 @@ use Rattle.page_model.specs.Commands.{does, holds}
 use Rattle.page_model.specs.Operands.{Present}
 use Rattle.page_model.specs.Runs.{Said, ◌followed_by◌, for_each, only_if, silent}
 use Rattle.page_model.specs.World.{World}
-use Rattle.page_laws.specs.Ready.{IsReadyFor}
-use Rattle.page_laws.proofs.Ready.{ready-command}
-use Rattle.trace_runs.specs.Flows.{flow_of}
-use Rattle.trace_runs.specs.Runs.{Runs}
-use Rattle.trace_runs.specs.declared.faults.Flow.{Flow}
-use Rattle.trace_runs.specs.declared.faults.RunFault.{RunFault}
-use Rattle.handlers.specs.Entries.{present_at, AreIn}
-use Rattle.handlers.proofs.Places.{present_in}
 
 -- commands by what they are -----------------------------------------------------------------------------------------------
 
@@ -85,12 +76,3 @@ block_none commands i script entries present world past = ap (λ rest. run_block
 pub block_same : (script : Script) (entries : List Present) (present : Present) (world : World) {block other : Block} → other ≡ block
     → run_block script entries block present world ≡ run_block script entries other present world
 block_same script entries present world same = ap (λ it. run_block script entries it present world) (sym same)
-
--- a page stays ready for a tick behind a command with its block
-pub command_ready : {before after : Option (List ℕ)} {f g : ℕ} (script : Script) (entries : List Present) (command : ModelCommand) (subject : Option ℕ) (old new : World) (result : Result Flow RunFault)
-    → AreIn old entries → Runs flow_of new result before after f g (run_command script entries command (present_at entries subject) old)
-    → IsReadyFor (length script) old → IfOk result (λ _. IsReadyFor (length script) new)
-command_ready script entries command subject old new (Ok flow) are run ready =
-    subst (λ (world : World). IsReadyFor (length script) world) run.ended.state_is
-    (ready-command script old ready entries command (present_at entries subject) are (present_in old entries subject are))
-command_ready script entries command subject old new (Err fault) are run ready = tt

@@ -1,6 +1,6 @@
 -- The block of a handler of a script.
-use Rattle.std.proofs.Common.{◌≡◌, ℕ, List, true, false, Option, Some, None, length, refl, ap, sym, subst, ◌∙◌}
-use Rattle.std.specs.Prelude.{slice_get, option_map, unwrap_or, Result, Ok, Err, IfOk}
+use Rattle.std.proofs.Common.{◌≡◌, ℕ, List, true, false, Option, Some, None, refl, ap, sym, ◌∙◌}
+use Rattle.std.specs.Prelude.{slice_get, option_map, unwrap_or}
 use Rattle.script_model.specs.Scripts.{NamedBlock}
 use Rattle.script_model.specs.Syntax.{Block, NoMore}
 use Rattle.event_tables.specs.declared.events.HandlerId.{HandlerId}
@@ -9,13 +9,7 @@ use Rattle.page_model.specs.Documents.{is_active}
 use Rattle.page_model.specs.Operands.{NoEntry}
 use Rattle.page_model.specs.Runs.{silent, say, ◌followed_by◌, only_if, caught, caught_flow}
 use Rattle.page_model.specs.World.{World}
-use Rattle.page_laws.specs.Ready.{IsReadyFor}
-use Rattle.page_laws.proofs.Ready.{ready-called}
-use Rattle.trace_runs.specs.Flows.{goes_on}
-use Rattle.trace_runs.specs.Runs.{Runs}
-use Rattle.trace_runs.specs.declared.faults.RunFault.{RunFault}
 use Rattle.trace_runs.proofs.Runs.{only_if_true, only_if_false}
-use Rattle.handlers.specs.Entries.{AreIn}
 
 pub handler_is : (script : List NamedBlock) (number : ℕ) (found : NamedBlock) → Some found ≡ slice_get script number → handler_block script number ≡ found.block
 handler_is script number found is = ap (λ (at : Option NamedBlock). unwrap_or (option_map (λ (it : NamedBlock). it.block) at) NoMore) (sym is)
@@ -35,14 +29,6 @@ module _ (script : Script) (document : ℕ) (handler : Option ℕ) (handed : Ent
 
   pub call_active : is_active (world.tree) document ≡ true → say (entry_lines (world.version) (world.names) handed) world followed_by run_handler script handed handler ≡ call script document handler handed world
   call_active active = sym (only_if_true (λ now. say (entry_lines (now.version) (now.names) handed) now followed_by run_handler script handed handler) world active) ∙ call-is
-
--- a page stays ready for a tick behind a callback
-pub called_ready : {A : Type 0} {before after : Option (List ℕ)} {f g : ℕ} (script : Script) (document : ℕ) (handler : Option ℕ) (handed : Entries) (old new : World) (result : Result A RunFault)
-    → AreIn old (presents handed) → Runs goes_on new result before after f g (call script document handler handed old)
-    → IsReadyFor (length script) old → IfOk result (λ _. IsReadyFor (length script) new)
-called_ready script document handler handed old new (Ok value) are run ready =
-    subst (λ (world : World). IsReadyFor (length script) world) run.ended.state_is (ready-called script old ready document handler handed are)
-called_ready script document handler handed old new (Err fault) are run ready = tt
 
 -- a handler without a block says nothing
 pub unnamed_is : (script : Script) (handed : Entries) (number : ℕ) (world : World) → handler_block script number ≡ NoMore → silent world ≡ run_handler script handed (Some number) world

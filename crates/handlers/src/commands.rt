@@ -1,6 +1,6 @@
 //! Running commands with their blocks.
 
-ghost use Rattle.std.specs.Prelude.{length, IfOk};
+ghost use Rattle.std.specs.Prelude.{length};
 ghost use Rattle.script_model.specs.Scripts.{handlers_in};
 ghost use Rattle.script_syntax.specs.Allowed.{IsAllowed, TestAllowed};
 ghost use Rattle.script_syntax.specs.Seen.{command_of, condition_of};
@@ -26,14 +26,14 @@ use trace_runs::{Flow, RunFault, write_throw};
 /// Begins a command, runs it with its block, for the entry at an index of `entries` if there is one, and writes its lines.
 /// Outside handlers there are no entries.
 ///
-/// Returns `Thrown` if it threw, after writing the exception. With `Ok` a page that was ready for a tick of the script is
-/// still so (`IsReadyFor`).
+/// Returns `Thrown` if it threw, after writing the exception. A page that was ready for a tick of the script is still so,
+/// whatever is returned (`IsReadyFor`).
 ///
 /// # Errors
 /// - `Limit` only if a limit is met, and then never `Ok`; all but the limit's own line was written, and the page's world is
 ///   that of the definition at the limit.
 /// - `Memory`, and `WriteFault` only if the sink's fault count rose in this call; either may come before a limit. A prefix of
-///   the lines was written, and nothing is said of the page's world, which may be one inside of a step.
+///   the lines was written, and of the page's world, which may be one inside of a step, only that it is ready is said.
 #[cycle(blocks)]
 pub fn run_command<K: Sink, L: Ledger>(
     alloc: Global,
@@ -49,7 +49,7 @@ pub fn run_command<K: Sink, L: Ledger>(
     requires targets { AreIn page.old.world (presents (entries_of entries.now)) }
     ensures says { Runs flow_of page.new.world result (K.taken sink.old) (K.taken sink.new) (K.faults sink.old) (K.faults sink.new)
         (run_command (handlers_in script.now.items) (presents (entries_of entries.now)) (command_of command.now) (present_at (presents (entries_of entries.now)) subject) page.old.world) }
-    ensures ready { IsReadyFor (length (handlers_in script.now.items)) page.old.world → IfOk result (λ _. IsReadyFor (length (handlers_in script.now.items)) page.new.world) }
+    ensures ready { IsReadyFor (length (handlers_in script.now.items)) page.old.world → IsReadyFor (length (handlers_in script.now.items)) page.new.world }
 {
     if let Err(fault) = page.begin_command() {
         return refuse(alloc, command.line, fault, page.version(), sink);
@@ -96,8 +96,9 @@ fn run_each<K: Sink, L: Ledger>(
     steps: &mut Steps<L>,
 ) -> Result<Flow, RunFault>
     requires targets { AreIn page.old.world (presents (entries_of entries.now)) }
-    ensures { Runs flow_of page.new.world result (K.taken sink.old) (K.taken sink.new) (K.faults sink.old) (K.faults sink.new)
+    ensures says { Runs flow_of page.new.world result (K.taken sink.old) (K.taken sink.new) (K.faults sink.old) (K.faults sink.new)
         (for_each (run_block (handlers_in script.now.items) (presents (entries_of entries.now)) block.now) (presents (entries_of entries.now)) page.old.world) }
+    ensures ready { IsReadyFor (length (handlers_in script.now.items)) page.old.world → IsReadyFor (length (handlers_in script.now.items)) page.new.world }
 {
     runs_take_nothing_back();
     for place in 0..entries.count() {
@@ -135,10 +136,11 @@ fn run_when<K: Sink, L: Ledger>(
 ) -> Result<Flow, RunFault>
     requires allowed { TestAllowed condition.now.asks }
     requires targets { AreIn page.old.world (presents (entries_of entries.now)) }
-    ensures { Runs flow_of page.new.world result (K.taken sink.old) (K.taken sink.new) (K.faults sink.old) (K.faults sink.new)
+    ensures says { Runs flow_of page.new.world result (K.taken sink.old) (K.taken sink.new) (K.faults sink.old) (K.faults sink.new)
         (answered line page.old.world
         (only_if (run_block (handlers_in script.now.items) (presents (entries_of entries.now)) block.now (present_at (presents (entries_of entries.now)) subject)) page.old.world)
         (holds page.old.world (present_at (presents (entries_of entries.now)) subject) (condition_of condition.now))) }
+    ensures ready { IsReadyFor (length (handlers_in script.now.items)) page.old.world → IsReadyFor (length (handlers_in script.now.items)) page.new.world }
 {
     let present = subject_at(entries, subject);
     match page.holds(condition, present.target, present.meets, steps) {
@@ -162,8 +164,9 @@ pub(crate) fn run_block<K: Sink, L: Ledger>(
     steps: &mut Steps<L>,
 ) -> Result<Flow, RunFault>
     requires targets { AreIn page.old.world (presents (entries_of entries.now)) }
-    ensures { Runs flow_of page.new.world result (K.taken sink.old) (K.taken sink.new) (K.faults sink.old) (K.faults sink.new)
+    ensures says { Runs flow_of page.new.world result (K.taken sink.old) (K.taken sink.new) (K.faults sink.old) (K.faults sink.new)
         (run_block (handlers_in script.now.items) (presents (entries_of entries.now)) block.now (present_at (presents (entries_of entries.now)) subject) page.old.world) }
+    ensures ready { IsReadyFor (length (handlers_in script.now.items)) page.old.world → IsReadyFor (length (handlers_in script.now.items)) page.new.world }
 {
     runs_take_nothing_back();
     for command in block.as_slice() {

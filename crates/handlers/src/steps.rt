@@ -6,6 +6,7 @@ ghost use Rattle.script_syntax.specs.Allowed.{ActionAllowed};
 ghost use Rattle.script_syntax.specs.Seen.{action_of};
 ghost use Rattle.page_model.specs.Callbacks.{answered, handler_names, said_by};
 ghost use Rattle.page_model.specs.Commands.{does};
+ghost use Rattle.page_laws.specs.Ready.{IsReadyFor};
 ghost use Rattle.trace_runs.specs.Flows.{flow_of};
 ghost use Rattle.trace_runs.specs.Runs.{Runs};
 ghost use Rattle.trace_runs.specs.Writes.{Told};
@@ -71,8 +72,9 @@ pub(crate) fn apply<K: Sink, L: Ledger>(
     requires begun { page.old.begun ≡ true }
     requires allowed { ActionAllowed action.now }
     requires subject { IsSubject (length page.old.world.tree.elements) subject.target }
-    ensures { Runs flow_of page.new.world result (K.taken sink.old) (K.taken sink.new) (K.faults sink.old) (K.faults sink.new)
+    ensures says { Runs flow_of page.new.world result (K.taken sink.old) (K.taken sink.new) (K.faults sink.old) (K.faults sink.new)
         (answered line page.old.world said_by (does (handler_names (handlers_in script.now.items)) page.old.world (subject_of subject) (action_of action.now))) }
+    ensures ready { IsReadyFor (length (handlers_in script.now.items)) page.old.world → IsReadyFor (length (handlers_in script.now.items)) page.new.world }
 {
     commands_read_the_target_alone();
     match page.apply(script, action, subject.target, steps) {

@@ -1,5 +1,5 @@
 -- The chain from an element with a box to the viewport of the top document.
-use Rattle.std.proofs.Common.{◌≡◌, ◌∙◌, ℕ, Bool, true, false, cond, ◌&&◌, List, [], ◌∷◌, ◌++◌, filter, filter_map, map, reverse, Result, IfOk, refl, ap, sym, subst, ◌<◌, All, length, IsPermutation}
+use Rattle.std.proofs.Common.{◌≡◌, ◌∙◌, ℕ, Bool, true, false, cond, ◌&&◌, List, [], ◌∷◌, ◌++◌, filter, filter_map, map, reverse, Result, Ok, Err, IfOk, refl, ap, sym, subst, ◌<◌, All, length, IsPermutation}
 use Rattle.std.specs.List.{list_all}
 use Rattle.std.proofs.lemmas.List.{map-append, reverse-append}
 use Rattle.std.proofs.lemmas.List.Elements.{All-weaker, filter_passes}
@@ -12,7 +12,8 @@ use Rattle.element_tree.specs.Links.{number}
 use Rattle.page_model.specs.World.{ImplicitRoot, World}
 use Rattle.page_model.specs.Shown.{Shown, shown_of, has_box}
 use Rattle.page_model.specs.Chains.{border_rect, clips_between, viewport_rect, zero_rect}
-use Rattle.clip_chain.specs.Chains.{IsAbove}
+use Rattle.element_tree.specs.declared.container.Container.{Container}
+use Rattle.clip_chain.specs.Chains.{IsAbove, Leads}
 use Rattle.clip_chain.specs.Worlds.{scene_of, element_spot, view_spot}
 use Rattle.clip_chain.proofs.Worlds.{clips_are}
 use Rattle.page_geometry.specs.Scenes.{IsPageTree}
@@ -33,6 +34,13 @@ module _ (it : Shown) (page : IsPageTree it.tree) (n : ℕ) (boxed : has_box it 
       (clips_are it ImplicitRoot n to_screen.0 to_screen.1
       (few_between it.tree it.screen it.scrolls page.framed page.few page.deep (element_spot n) (view_spot 0) to_screen.0 to_screen.1))
       ∙ ap (λ b. b && list_all (has_point at) (border_rect it n ∷ viewport_rect it 0 ∷ clips_between it ImplicitRoot n)) (sym boxed)
+
+  pub hit_told : {E : Type 0} (at : Point) (result : Result Bool E)
+      → IfOk result (λ shows. (between : List Container) → Leads (scene_of it) (element_spot n) between (view_spot 0)
+      → shows ≡ shows_between (scene_of it) at (element_spot n) between)
+      → IfOk result (λ hit. hit ≡ is_hit it at n)
+  hit_told at (Ok shows) told = told to_screen.0 to_screen.1 ∙ hit_is at
+  hit_told at (Err fault) told = tt
 
 pub boxless : (it : Shown) (at : Point) (n : ℕ) → has_box it n ≡ false → is_hit it at n ≡ false
 unfolding is_hit

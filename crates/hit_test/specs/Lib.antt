@@ -1,2 +1,3 @@
 pub mod Painting
 pub mod Hits
+pub mod Clips

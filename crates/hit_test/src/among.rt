@@ -3,32 +3,51 @@
 ghost use Rattle.std.specs.Prelude.{◌≡◌, ◌<◌, All, length, filter, map, reverse, true, IfOk};
 ghost use Rattle.element_tree.specs.Links.{number};
 ghost use Rattle.page_model.specs.Shown.{has_box};
+ghost use Rattle.hit_test.specs.Clips.{AreClips};
 ghost use Rattle.hit_test.specs.Hits.{is_hit};
 ghost use Rattle.hit_test.specs.Painting.{paint_order};
 
 use crate::painting::paint_order;
 use crate::points::shows_at;
+use common_clips::CommonClips;
 use element_tree::NodeId;
 use page_geometry::Shown;
 use px_units::Point;
 use std::alloc::{AllocError, Global};
 
 // Whether a point hits an element that has a box.
-fn is_boxed_hit(shown: &Shown<'_>, node: NodeId, at: Point) -> bool
-    requires { has_box shown.now node.0 ≡ true }
-    ensures { result ≡ is_hit shown.now at node.0 }
+fn is_boxed_hit(
+    shown: &Shown<'_>,
+    node: NodeId,
+    at: Point,
+    clips: &mut CommonClips,
+) -> Result<bool, AllocError>
+    requires boxed { has_box shown.now node.0 ≡ true }
+    requires clips { AreClips shown.now clips.old.inside }
+    ensures hit { IfOk result (λ hit. hit ≡ is_hit shown.now at node.0) }
+    ensures clips { AreClips shown.now clips.new.inside }
 {
     // Yields that chains lead to the viewport of `top`, and a bound on their length.
     shown.document_count();
-    shows_at(shown, node, at)
+    shows_at(shown, node, at, clips)
 }
 
 // Whether a point hits an element.
 #[tactic(auto, using(crate::proofs::Chains::boxless))]
-fn is_hit(shown: &Shown<'_>, node: NodeId, at: Point) -> bool
-    ensures { result ≡ is_hit shown.now at node.0 }
+fn is_hit(
+    shown: &Shown<'_>,
+    node: NodeId,
+    at: Point,
+    clips: &mut CommonClips,
+) -> Result<bool, AllocError>
+    requires { AreClips shown.now clips.old.inside }
+    ensures hit { IfOk result (λ hit. hit ≡ is_hit shown.now at node.0) }
+    ensures clips { AreClips shown.now clips.new.inside }
 {
-    shown.has_box(node) && is_boxed_hit(shown, node, at)
+    if !shown.has_box(node) {
+        return Ok(false);
+    }
+    is_boxed_hit(shown, node, at, clips)
 }
 
 // Returns those of the given elements that a point hits, in the same order.
@@ -40,9 +59,11 @@ fn hit_among(
 ) -> Result<Vec<NodeId>, AllocError>
     ensures { IfOk result (λ found. found.items ≡ filter (λ node. is_hit shown.now at node.0) nodes.now) }
 {
+    let mut clips = CommonClips::new(alloc);
     let mut found = Vec::new(alloc);
     for node in nodes {
-        if is_hit(shown, *node, at) {
+        let hit = is_hit(shown, *node, at, &mut clips)?;
+        if hit {
             found.push(*node)?;
         }
     }

@@ -4,7 +4,7 @@ ghost use Rattle.std.specs.Prelude.{◌≡◌, ◌-◌, slice_get, ◌∷◌, �
 ghost use Rattle.page_model.specs.World.{Registration};
 ghost use Rattle.page_model.specs.IntersectionObserving.{is_registered};
 ghost use Rattle.page_model.specs.Intersections.{is_news};
-ghost use Rattle.intersection_observer.specs.Seen.{seen_root, seen_finding, seen_registration, serial_numbers};
+ghost use Rattle.intersection_observer.specs.Seen.{seen_root, seen_entries, seen_finding, seen_registration, serial_numbers};
 ghost use Rattle.intersection_observer.specs.Settling.{settled_at, is_news_of};
 ghost use Rattle.intersection_observer.specs.Watchers.{serial_of, without_target};
 ghost use Rattle.intersection_observer.specs.Answers.{Settles};
@@ -103,6 +103,12 @@ impl Watcher {
         ensures count { length result.now ≡ length self.now.registrations }
     {
         self.names.as_slice()
+    }
+
+    pub(crate) fn queue(&self) -> &[Entry]
+        ensures { seen_entries result.now ≡ self.now.queue }
+    {
+        self.queue.as_slice()
     }
 
     pub(crate) fn observes(&self, target: NodeId) -> bool

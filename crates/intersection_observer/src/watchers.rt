@@ -3,7 +3,7 @@
 ghost use Rattle.std.specs.Prelude.{◌≡◌, ◌<◌, ◌≤◌, ◌+◌, ◌-◌, slice_get, All, ◌^◌, true, [], length, map, not, option_map, Ok, Err, IfOk, OnOk, OnErr, IfSome, Some, None};
 ghost use Rattle.page_model.specs.World.{Registration};
 ghost use Rattle.page_model.specs.IntersectionObserving.{is_registered, with_intersection_observer, without_registration, without_registrations, without_queue};
-ghost use Rattle.intersection_observer.specs.Seen.{seen_root, seen_finding, serial_numbers};
+ghost use Rattle.intersection_observer.specs.Seen.{seen_root, seen_entries, seen_finding, serial_numbers};
 ghost use Rattle.intersection_observer.specs.Places.{Standing, standing_of, IsStanding};
 ghost use Rattle.intersection_observer.specs.Serials.{HasSerials};
 ghost use Rattle.intersection_observer.specs.Settling.{with_settled, is_news_for};
@@ -15,7 +15,7 @@ ghost use Rattle.intersection_observer.specs.declared.watchers.WatchFault.TheVar
 
 use crate::registration::Place;
 use crate::watcher::Watcher;
-use crate::{EntryList, Finding, RegistrationId, Root, Settled, WatcherId};
+use crate::{Entry, EntryList, Finding, RegistrationId, Root, Settled, WatcherId};
 use element_tree::{DocumentId, NodeId};
 use indexmap::IndexMap;
 use std::alloc::{AllocError, Global};
@@ -308,6 +308,15 @@ impl Watchers {
         ensures { result.now ≡ (watcher_at self.now watcher.0).thresholds }
     {
         self.made[watcher.0 as usize].thresholds()
+    }
+
+    /// Returns the queue of an observer, oldest entry first, which stays as it is (Intersection Observer, 2.2: the internal
+    /// slot `[[QueuedEntries]]`). It doesn't allocate.
+    pub fn queue(&self, watcher: WatcherId) -> &[Entry]
+        requires { watcher.0 < length self.now.part.made }
+        ensures { seen_entries result.now ≡ (watcher_at self.now watcher.0).queue }
+    {
+        self.made[watcher.0 as usize].queue()
     }
 
     /// Stores the finding of a registration's target at a time, and queues an entry at its observer exactly when `index` or

@@ -14,3 +14,4 @@ pub mod Updates
 pub mod Numbers
 pub mod Totals
 pub mod Current
+pub mod Watched

@@ -8,5 +8,5 @@ mod rooted;
 mod settling;
 
 pub use laws::an_update_settles_each_registration_once;
-pub use rooted::watchers_of;
+pub use rooted::{have_entries, is_watched, watchers_of};
 pub use settling::update;

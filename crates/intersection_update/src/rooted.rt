@@ -6,7 +6,7 @@ ghost use Rattle.page_model.specs.Intersections.{is_rooted_in, watchers as numbe
 ghost use Rattle.intersection_observer.specs.Seen.{seen_root};
 ghost use Rattle.intersection_observer.specs.Watchers.{watcher_at};
 ghost use Rattle.intersection_observer.specs.declared.root.WatcherId.{WatcherId};
-ghost use Rattle.intersection_update.specs.Watching.{watcher_numbers};
+ghost use Rattle.intersection_update.specs.Watching.{watcher_numbers, is_watching, is_watched, has_entry, have_entries};
 
 use element_tree::{DocumentId, NodeId};
 use intersection_observer::{Root, WatcherId, Watchers};
@@ -50,6 +50,52 @@ pub(crate) fn is_looked_at(
     ensures { result ≡ is_rooted_in page.now.tree document.0 (watcher_at watchers.now watcher.0).root }
 {
     is_rooted_in(page, watchers.root_of(watcher), document)
+}
+
+// Whether an observer that is updated with a document has a registration.
+fn is_watching(
+    page: &PageTree,
+    watchers: &Watchers,
+    watcher: WatcherId,
+    document: DocumentId,
+) -> bool
+    requires { watcher.0 < length watchers.now.part.made }
+    ensures { result ≡ is_watching page.now.tree document.0 (watcher_at watchers.now watcher.0) }
+{
+    is_looked_at(page, watchers, watcher, document) && watchers.registrations(watcher).len() > 0
+}
+
+/// Whether an update of a document looks at any registration: whether an observer whose root is the document or is in its
+/// tree, for the top document also one with the implicit root, has a target. Doesn't allocate.
+pub fn is_watched(page: &PageTree, watchers: &Watchers, document: DocumentId) -> bool
+    ensures { result ≡ is_watched page.now.tree document.0 watchers.now.part }
+{
+    for number in 0..watchers.count() {
+        if is_watching(page, watchers, WatcherId(number), document) {
+            return true;
+        }
+    }
+    false
+}
+
+// Whether an observer that is updated with a document has an entry in its queue.
+fn has_entry(page: &PageTree, watchers: &Watchers, watcher: WatcherId, document: DocumentId) -> bool
+    requires { watcher.0 < length watchers.now.part.made }
+    ensures { result ≡ has_entry page.now.tree document.0 (watcher_at watchers.now watcher.0) }
+{
+    is_looked_at(page, watchers, watcher, document) && watchers.queue(watcher).len() > 0
+}
+
+/// Whether an entry waits at an observer that is updated with a document. Doesn't allocate.
+pub fn have_entries(page: &PageTree, watchers: &Watchers, document: DocumentId) -> bool
+    ensures { result ≡ have_entries page.now.tree document.0 watchers.now.part }
+{
+    for number in 0..watchers.count() {
+        if has_entry(page, watchers, WatcherId(number), document) {
+            return true;
+        }
+    }
+    false
 }
 
 /// Returns the observers that are updated with a document, in creation order: those whose root is the document or is in its

@@ -6,4 +6,5 @@ mod Waiting
 mod Steady
 mod Quiet
 mod Searching
+mod Marking
 mod Promised

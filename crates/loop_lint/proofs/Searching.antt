@@ -91,10 +91,11 @@ handler-lines test all (model.Tick line time ∷ items) = handler-lines test all
 handler-lines test all (model.Handler line name block end_line ∷ items) =
     ap (λ (others : List ℕ). cond (is_unnamed all name) [] (block_lines test block) ++ others) (handler-lines test all items)
 
-pub whole-lines : (test : model.Action → Bool) (items : List Item) →
-    flat_map (λ item. lines_at test (map item_of items) (item_of item)) items ≡ loop_handler_lines test (map item_of items)
+pub whole-lines : (test : model.Action → Bool) (items : List Item) (all : List model.Item) → map item_of items ≡ all →
+    flat_map (λ item. lines_at test all (item_of item)) items ≡ loop_handler_lines test all
 unfolding loop_handler_lines
-whole-lines test items = sym (flat_map-map (lines_at test (map item_of items)) item_of items) ∙ handler-lines test (map item_of items) (map item_of items)
+whole-lines test items all is =
+    sym (flat_map-map (lines_at test all) item_of items) ∙ ap (flat_map (lines_at test all)) is ∙ handler-lines test all all
 
 pub unnamed-lines : (name : List ℕ) (items : List Item) → is_none (slice_get (flat_map (λ item. item_lines (names_handler name) (item_of item)) items) 0)
     ≡ is_unnamed (map item_of items) name

@@ -6,6 +6,7 @@ mod check;
 pub mod examples;
 mod kinds;
 pub mod laws;
+mod marks;
 mod search;
 
 pub use check::{blame, lint};

@@ -2,6 +2,7 @@
 ghost use Rattle.std.specs.Prelude.{◌≡◌, ◌≤◌, ◌<◌, ◌+◌, ◌^◌, length};
 
 use crate::common::three_observers;
+use crate::same::same;
 use depth_gather::{
     Delivery, ResizeEntry, ResizeList, Sizes, end_delivery, gather, has_skipped, least_depth,
     next_delivery,
@@ -233,7 +234,7 @@ fn see_delivery(rt: &impl Abort, observers: &mut Observers, delivery: Delivery)
     requires { delivery.observer.0 < length observers.old.part.made }
 {
     assert!(rt; delivery.entries.as_slice().len() == 3);
-    assert_eq!(rt; least_depth(&delivery), 2);
+    same(rt, &least_depth(&delivery), &2, "the least depth");
     end_delivery(observers, delivery.observer);
 }
 

@@ -1,6 +1,7 @@
 //! The tables through calls, with answers from the rules.
 ghost use Rattle.std.specs.Prelude.{◌≡◌, ◌<◌, ◌≤◌, ◌+◌, ◌^◌};
 
+use crate::same::same;
 use element_tree::{DocumentId, NodeId};
 use event_tables::{
     Batch, Dispatch, EventTarget, FrameCallbacks, HandlerId, Listeners, TableFault, Task, Tasks,
@@ -110,7 +111,12 @@ fn see_listening(rt: &impl Abort, listeners: &mut Listeners, dispatch: &mut Disp
     requires { listeners.old.part.given ≤ 3 }
 {
     for (step, want) in LISTENING {
-        assert_eq!(rt; listen(listeners, dispatch, step), want);
+        same(
+            rt,
+            &listen(listeners, dispatch, step),
+            &want,
+            "the outcome of a step",
+        );
     }
 }
 
@@ -166,7 +172,12 @@ fn see_requests(
     requires { callbacks.old.part.given ≤ 3 }
 {
     for (step, want) in steps {
-        assert_eq!(rt; request(callbacks, batch, step), want);
+        same(
+            rt,
+            &request(callbacks, batch, step),
+            &want,
+            "the outcome of a step",
+        );
     }
 }
 
@@ -224,7 +235,12 @@ fn see_timers(rt: &impl Abort, timers: &mut Timers, batch: &mut Batch, steps: [(
     requires { timers.old.part.given ≤ 4 }
 {
     for (step, want) in steps {
-        assert_eq!(rt; set(timers, batch, step), want);
+        same(
+            rt,
+            &set(timers, batch, step),
+            &want,
+            "the outcome of a step",
+        );
     }
 }
 
@@ -268,12 +284,14 @@ fn add_many(timers: &mut Timers, x: Name) -> Result<(), Fail>
 fn see_many(rt: &impl Abort, timers: &mut Timers, batch: &mut Batch, x: Name) {
     for document in 0..MANY {
         let called = timers.next(batch);
-        assert_eq!(rt;
-            called,
-            Some((DocumentId(document), x, HandlerId(document)))
+        same(
+            rt,
+            &called,
+            &Some((DocumentId(document), x, HandlerId(document))),
+            "what is called",
         );
     }
-    assert_eq!(rt; timers.next(batch), None);
+    same(rt, &timers.next(batch), &None, "no more timers");
 }
 
 #[test]
@@ -289,13 +307,23 @@ fn timers_that_are_due_at_once_run_in_order_of_setting(rt: HostRuntime) -> Resul
 fn see_tasks(rt: &impl Abort, tasks: &mut Tasks) -> Result<(), Fail> {
     let posted = Task::Posted(DocumentId(0), HandlerId(3));
     tasks.push(posted)?;
-    assert_eq!(rt; tasks.push(posted), Err(TableFault::Limit));
+    same(
+        rt,
+        &tasks.push(posted),
+        &Err(TableFault::Limit),
+        "a task too many",
+    );
     tasks.push(Task::Notify(DocumentId(2)))?;
-    assert_eq!(rt; tasks.pop(), Some(posted));
+    same(rt, &tasks.pop(), &Some(posted), "the next task");
     tasks.push(posted)?;
-    assert_eq!(rt; tasks.pop(), Some(Task::Notify(DocumentId(2))));
-    assert_eq!(rt; tasks.pop(), Some(posted));
-    assert_eq!(rt; tasks.pop(), None);
+    same(
+        rt,
+        &tasks.pop(),
+        &Some(Task::Notify(DocumentId(2))),
+        "the next task",
+    );
+    same(rt, &tasks.pop(), &Some(posted), "the next task");
+    same(rt, &tasks.pop(), &None, "the next task");
     Ok(())
 }
 

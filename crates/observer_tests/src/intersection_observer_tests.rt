@@ -3,6 +3,7 @@ ghost use Rattle.std.specs.Prelude.{◌≡◌, ◌<◌, ◌≤◌, ◌+◌, ◌^
 ghost use Rattle.intersection_observer.specs.Places.{IsStanding};
 ghost use Rattle.thresholds.specs.Roots.{IsRootRect};
 
+use crate::same::same;
 use element_tree::{DocumentId, NodeId};
 use intersection_observer::{
     Entry, Finding, RegistrationId, Root, Settled, WatchFault, WatcherId, Watchers,
@@ -337,23 +338,68 @@ fn top_of(watchers: &Watchers, watcher: WatcherId, view: Rect) -> i64
 fn see_first(rt: &impl Abort, watchers: &Watchers, first: WatcherId)
     requires { first.0 < length watchers.now.part.made }
 {
-    assert_eq!(rt; watchers.document_of(first), DocumentId(7));
-    assert_eq!(rt; watchers.handler_of(first), None);
-    assert_eq!(rt; watchers.root_of(first), Root::Node(NodeId(3)));
-    assert_eq!(rt; top_of(watchers, first, small_view()), -640);
+    same(
+        rt,
+        &watchers.document_of(first),
+        &DocumentId(7),
+        "the first document",
+    );
+    same(rt, &watchers.handler_of(first), &None, "the first handler");
+    same(
+        rt,
+        &watchers.root_of(first),
+        &Root::Node(NodeId(3)),
+        "the first root",
+    );
+    same(
+        rt,
+        &top_of(watchers, first, small_view()),
+        &-640,
+        "the first top",
+    );
     let half = Ratio { part: 1, whole: 2 };
-    assert_eq!(rt; watchers.thresholds_of(first).index_of(half), 1);
+    same(
+        rt,
+        &watchers.thresholds_of(first).index_of(half),
+        &1,
+        "the first index",
+    );
 }
 
 fn see_second(rt: &impl Abort, watchers: &Watchers, second: WatcherId)
     requires { second.0 < length watchers.now.part.made }
 {
-    assert_eq!(rt; watchers.document_of(second), DocumentId(8));
-    assert_eq!(rt; watchers.handler_of(second), Some(2));
-    assert_eq!(rt; watchers.root_of(second), Root::Document(DocumentId(8)));
-    assert_eq!(rt; top_of(watchers, second, small_view()), 0);
+    same(
+        rt,
+        &watchers.document_of(second),
+        &DocumentId(8),
+        "the second document",
+    );
+    same(
+        rt,
+        &watchers.handler_of(second),
+        &Some(2),
+        "the second handler",
+    );
+    same(
+        rt,
+        &watchers.root_of(second),
+        &Root::Document(DocumentId(8)),
+        "the second root",
+    );
+    same(
+        rt,
+        &top_of(watchers, second, small_view()),
+        &0,
+        "the second top",
+    );
     let half = Ratio { part: 1, whole: 2 };
-    assert_eq!(rt; watchers.thresholds_of(second).index_of(half), 1);
+    same(
+        rt,
+        &watchers.thresholds_of(second).index_of(half),
+        &1,
+        "the second index",
+    );
 }
 
 fn see_making(rt: &impl Abort, alloc: Global, watchers: &mut Watchers) -> Result<(), Fail> {
@@ -379,8 +425,8 @@ fn see_making(rt: &impl Abort, alloc: Global, watchers: &mut Watchers) -> Result
     assert!(rt; watchers.is_full());
     let thresholds = Thresholds::new(alloc, &[])?;
     let refused = watchers.make(DocumentId(9), None, Root::Implicit, margins, thresholds);
-    assert_eq!(rt; refused, Err(WatchFault::Limit));
-    assert_eq!(rt; watchers.count(), 2);
+    same(rt, &refused, &Err(WatchFault::Limit), "a third observer");
+    same(rt, &watchers.count(), &2, "how many there are");
     see_first(rt, watchers, first);
     see_second(rt, watchers, second);
     Ok(())

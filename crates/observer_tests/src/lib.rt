@@ -20,6 +20,8 @@ mod readme_examples;
 #[cfg(test)]
 mod resize_observer_tests;
 #[cfg(test)]
+mod same;
+#[cfg(test)]
 mod scrolling_tests;
 #[cfg(test)]
 mod thresholds_tests;

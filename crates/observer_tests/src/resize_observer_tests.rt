@@ -2,6 +2,7 @@
 ghost use Rattle.std.specs.Prelude.{◌≡◌, ◌<◌, ◌≤◌, ◌+◌, ◌^◌};
 
 use crate::common::three_observers;
+use crate::same::same;
 use element_tree::{DocumentId, NodeId};
 use px_units::{BoxKind, Size};
 use resize_observer::{Observation, ObserveFault, Observers};
@@ -213,7 +214,7 @@ fn see_step(rt: &impl Abort, alloc: Global, observers: &mut Observers, row: Row)
     let (number, place, step, answered, want) = row;
     let document = DocumentId(number);
     let said = apply(rt, observers, document, place, step);
-    assert_eq!(rt; said, answered, "before {want}");
+    same(rt, &said, &answered, want);
     let now = lists(alloc, observers, document, place)?;
     assert!(rt; now.as_bytes() == want.as_bytes(), "want {want}");
     Ok(())
@@ -255,16 +256,23 @@ fn see_place(
         assert!(rt; want.is_none());
         return;
     };
-    assert_eq!(rt; Some((observer.0, observers.handler(observer))), want);
-    assert_eq!(rt; observers.document(observer), document);
+    same(
+        rt,
+        &Some((observer.0, observers.handler(observer))),
+        &want,
+        "observer and handler",
+    );
+    same(rt, &observers.document(observer), &document, "document");
 }
 
 #[test]
 fn observers_are_found_by_their_documents(rt: HostRuntime) -> Result<(), Fail> {
     let mut observers = three_observers(rt.alloc(), 3)?;
-    assert_eq!(&rt;
-        observers.make(DocumentId(0), None),
-        Err(ObserveFault::Limit)
+    same(
+        &rt,
+        &observers.make(DocumentId(0), None),
+        &Err(ObserveFault::Limit),
+        "an observer too many",
     );
     for (document, place, want) in PLACES {
         see_place(&rt, &observers, DocumentId(document), place, want);

@@ -1,3 +1,4 @@
+use crate::same::same;
 use px_units::{Rect, meet};
 use std::alloc::Global;
 use thresholds::{Margins, Ratio, ThresholdFault, Thresholds};
@@ -55,7 +56,7 @@ fn margins_move_the_root(rt: HostRuntime) {
             Ok(margins) => Ok(edges(margins.dilate(VIEWPORT))),
             Err(fault) => Err(fault),
         };
-        assert_eq!(rt; moved, want.ok_or(ThresholdFault::MarginSyntax), "{text}");
+        same(&rt, &moved, &want.ok_or(ThresholdFault::MarginSyntax), text);
     }
 }
 
@@ -68,17 +69,21 @@ fn crossed_roots_are_moved(rt: HostRuntime) -> Result<(), ThresholdFault> {
         right: 0,
         bottom: 64,
     };
-    assert_eq!(rt;
-        edges(Margins::parse(b"10%")?.dilate(crossed)),
-        (705, 64, -64, 0)
+    same(
+        &rt,
+        &edges(Margins::parse(b"10%")?.dilate(crossed)),
+        &(705, 64, -64, 0),
+        "10%",
     );
-    assert_eq!(rt;
-        edges(Margins::parse(b"-10%")?.dilate(crossed)),
-        (577, -64, 64, 128)
+    same(
+        &rt,
+        &edges(Margins::parse(b"-10%")?.dilate(crossed)),
+        &(577, -64, 64, 128),
+        "-10%",
     );
     let empty = Margins::parse(b"-301px")?.dilate(VIEWPORT);
-    assert_eq!(rt; meet(empty, VIEWPORT), None);
-    assert_eq!(rt; meet(empty, empty), None);
+    same(&rt, &meet(empty, VIEWPORT), &None, "an empty root");
+    same(&rt, &meet(empty, empty), &None, "itself");
     Ok(())
 }
 
@@ -94,20 +99,44 @@ fn thresholds_are_counted(rt: HostRuntime) {
     let half = Ratio { part: 1, whole: 2 };
     let nothing = Ratio { part: 0, whole: 1 };
     let all = Ratio { part: 1, whole: 1 };
-    assert_eq!(rt; index(alloc, &[0, 2500, 10000], quarter), Ok(2));
-    assert_eq!(rt; index(alloc, &[0, 2500, 10000], nothing), Ok(1));
-    assert_eq!(rt; index(alloc, &[0, 2500, 10000], all), Ok(3));
-    assert_eq!(rt; index(alloc, &[10000, 0, 2500], quarter), Ok(2));
-    assert_eq!(rt; index(alloc, &[5000, 5000], half), Ok(2));
-    assert_eq!(rt; index(alloc, &[3333, 3334], third), Ok(1));
-    assert_eq!(rt; index(alloc, &[], nothing), Ok(1));
-    assert_eq!(rt;
-        index(alloc, &[0, 10001], all),
-        Err(ThresholdFault::ThresholdRange)
+    same(
+        &rt,
+        &index(alloc, &[0, 2500, 10000], quarter),
+        &Ok(2),
+        "a quarter",
     );
-    assert_eq!(rt;
-        index(alloc, &[-1, 0], all),
-        Err(ThresholdFault::ThresholdRange)
+    same(
+        &rt,
+        &index(alloc, &[0, 2500, 10000], nothing),
+        &Ok(1),
+        "nothing",
+    );
+    same(&rt, &index(alloc, &[0, 2500, 10000], all), &Ok(3), "all");
+    same(
+        &rt,
+        &index(alloc, &[10000, 0, 2500], quarter),
+        &Ok(2),
+        "not in order",
+    );
+    same(
+        &rt,
+        &index(alloc, &[5000, 5000], half),
+        &Ok(2),
+        "twice the same",
+    );
+    same(&rt, &index(alloc, &[3333, 3334], third), &Ok(1), "a third");
+    same(&rt, &index(alloc, &[], nothing), &Ok(1), "no thresholds");
+    same(
+        &rt,
+        &index(alloc, &[0, 10001], all),
+        &Err(ThresholdFault::ThresholdRange),
+        "above 1",
+    );
+    same(
+        &rt,
+        &index(alloc, &[-1, 0], all),
+        &Err(ThresholdFault::ThresholdRange),
+        "below 0",
     );
 }
 
@@ -121,6 +150,16 @@ fn areas_are_compared_exactly(rt: HostRuntime) {
         part: 1208925819614629174706175,
         whole: 1208925819614629174706176,
     };
-    assert_eq!(rt; index(rt.alloc(), &[5000], below), Ok(0));
-    assert_eq!(rt; index(rt.alloc(), &[9999, 10000], largest), Ok(1));
+    same(
+        &rt,
+        &index(rt.alloc(), &[5000], below),
+        &Ok(0),
+        "just below a half",
+    );
+    same(
+        &rt,
+        &index(rt.alloc(), &[9999, 10000], largest),
+        &Ok(1),
+        "just below 1",
+    );
 }

@@ -17,3 +17,4 @@ pub mod Edges
 pub mod InForce
 pub mod Around
 pub mod Mapped
+pub mod Below

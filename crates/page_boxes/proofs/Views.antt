@@ -73,7 +73,7 @@ module _ (tree : Tree) (screen : Screen) where
 
   -- the root element that an Active document shows
   module _ (high less document : ℕ) (more : high ≡ suc less) (active : is_active tree document ≡ true) where
-    boxed_size : (view : View) (n : ℕ) (boxed : Bool) → is_some (inputs_in_view (nodes_of tree) view n) ≡ boxed → (root : Option ℕ)
+    pub boxed_size : (view : View) (n : ℕ) (boxed : Bool) → is_some (inputs_in_view (nodes_of tree) view n) ≡ boxed → (root : Option ℕ)
         → (view_with root (option_map (λ inputs. content_size (box_in (nodes_of tree) inputs n)) (inputs_in_view (nodes_of tree) view n))).root ≡ cond boxed root None
     boxed_size view n boxed is root =
         by_inputs (inputs_in_view (nodes_of tree) view n) ∙ ap (λ b. cond b root None) is

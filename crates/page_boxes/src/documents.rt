@@ -8,7 +8,7 @@ ghost use Rattle.page_model.specs.PageBoxes.{pair_of, view_up, view_of, view_at,
 ghost use Rattle.block_layout.specs.Seen.{as_size};
 ghost use Rattle.page_tree.specs.Items.{IsNatural};
 ghost use Rattle.page_boxes.specs.Fresh.{IsFreshIn, IsFreshAbove};
-ghost use Rattle.page_boxes.specs.Pages.{seen_screen, seen_pair, IsScreen};
+ghost use Rattle.page_boxes.specs.Pages.{seen_screen, seen_pair, IsScreen, IsRootAbove};
 
 use crate::climb::is_boxed;
 use crate::screens::Screen;
@@ -57,6 +57,41 @@ pub fn shown_root(page: &PageTree, document: DocumentId) -> Option<NodeId>
     root_up(page, document, LEVELS)
 }
 
+/// Returns the root element that is shown around a document, by the document that its frame is in, `None` for `top`.
+/// Doesn't allocate.
+pub fn root_above(page: &PageTree, document: DocumentId) -> Option<NodeId>
+    ensures { (screen : WorldScreen) → IsRootAbove page.now.tree screen document.0 (option_map number result) }
+{
+    match page.frame_of(document) {
+        Some(frame) => shown_root(page, page.document_of(frame)),
+        None => None,
+    }
+}
+
+/// Returns the root element that a document shows, given the one that is shown around it (`root_above`), `None` if it isn't
+/// Active or its frame has no box. Doesn't allocate.
+pub fn shown_root_below(
+    page: &PageTree,
+    around: Option<NodeId>,
+    document: DocumentId,
+) -> Option<NodeId>
+    ensures { (screen : WorldScreen) → IsRootAbove page.now.tree screen document.0 (option_map number around) →
+        option_map number result ≡ (view_of page.now.tree screen document.0).root }
+{
+    if !page.is_active(document) {
+        return None;
+    }
+    let root = page.root(document);
+    let Some(frame) = page.frame_of(document) else {
+        return root;
+    };
+    if has_box_below(page, around, frame) {
+        root
+    } else {
+        None
+    }
+}
+
 /// Whether an element has a box, given the root element that its document shows (`has_box`). Doesn't allocate.
 pub fn has_box_below(page: &PageTree, root: Option<NodeId>, node: NodeId) -> bool
     ensures { (screen : WorldScreen) → option_map number root ≡ (view_at page.now.tree screen node.0).root → result ≡ has_box page.now.tree screen node.0 }
@@ -98,21 +133,23 @@ pub(crate) fn own_box(page: &PageTree, boxes: &Kept, node: NodeId) -> Option<Box
     box_below(page, boxes, root, node)
 }
 
-// Returns the size of a document's viewport, `None` if its frame has no box.
+// Returns the size of a document's viewport, given the root element that is shown around it, `None` if its frame has no box.
 pub(crate) fn framed_size(
     page: &PageTree,
     boxes: &Kept,
     screen: Screen,
+    around: Option<NodeId>,
     document: DocumentId,
 ) -> Option<Size>
-    ensures value { IsFreshAbove page.now.tree (seen_screen screen) boxes.now document.0 → option_map seen_pair result
+    ensures value { IsRootAbove page.now.tree (seen_screen screen) document.0 (option_map number around) →
+        IsFreshAbove page.now.tree (seen_screen screen) boxes.now document.0 → option_map seen_pair result
         ≡ framed_size page.now.tree (seen_screen screen) (view_of page.now.tree (seen_screen screen)) (document_at page.now.tree document.0).frame }
     ensures range { IsNatural screen.size → IfSome result IsNatural }
 {
     let Some(frame) = page.frame_of(document) else {
         return Some(screen.size);
     };
-    match own_box(page, boxes, frame) {
+    match box_below(page, boxes, around, frame) {
         Some(own) => Some(own.size(BoxKind::Content)),
         None => None,
     }
@@ -136,7 +173,25 @@ pub fn viewport_of(page: &PageTree, boxes: &Kept, screen: Screen, document: Docu
         result ≡ as_size (pair_of (viewport_of page.now.tree (seen_screen screen) document.0)) }
     ensures range { IsNatural result }
 {
-    match framed_size(page, boxes, screen, document) {
+    viewport_below(page, boxes, screen, root_above(page, document), document)
+}
+
+/// Returns the size of a document's viewport, given the root element that is shown around it (`root_above`): as `viewport_of`,
+/// without looking for that root element. Doesn't allocate.
+pub fn viewport_below(
+    page: &PageTree,
+    boxes: &Kept,
+    screen: Screen,
+    around: Option<NodeId>,
+    document: DocumentId,
+) -> Size
+    requires { IsScreen screen }
+    ensures value { IsRootAbove page.now.tree (seen_screen screen) document.0 (option_map number around) →
+        IsFreshAbove page.now.tree (seen_screen screen) boxes.now document.0 →
+        result ≡ as_size (pair_of (viewport_of page.now.tree (seen_screen screen) document.0)) }
+    ensures range { IsNatural result }
+{
+    match framed_size(page, boxes, screen, around, document) {
         Some(size) => size,
         None => NO_SIZE,
     }

@@ -1,22 +1,26 @@
 //! Layout of a page over the cached boxes: what is due is recomputed, document by document.
 
-ghost use Rattle.std.specs.Prelude.{◌≡◌, ◌≢◌, ℕ, ◌+◌, ◌<◌, ◌≤◌, ◌∷◌, [], true, false, Some, length, unsigned_abs};
+ghost use Rattle.std.specs.Prelude.{◌≡◌, ◌≢◌, ℕ, ◌+◌, ◌<◌, ◌≤◌, ◌∷◌, [], true, false, Some, List, option_map, length, unsigned_abs};
 ghost use Rattle.page_model.specs.Documents.{first_of_list, is_active};
+ghost use Rattle.page_model.specs.PageBoxes.{view_of};
+ghost use Rattle.page_model.specs.World.{Screen as WorldScreen};
+ghost use Rattle.element_tree.specs.Links.{number};
 ghost use Rattle.page_documents.specs.Frames.{AreFramed};
 ghost use Rattle.page_documents.specs.Paths.{way_down};
 ghost use Rattle.block_layout.specs.Seen.{seen_inputs};
 ghost use Rattle.container_model.specs.Seen.{seen_container};
+ghost use Rattle.kept_layout.specs.declared.slots.Slot.{Slot};
 ghost use Rattle.page_boxes.specs.Around.{rests_on, LeavesOthers};
 ghost use Rattle.page_boxes.specs.Fresh.{IsFresh, IsFreshIn, IsFreshAbove, IsFreshFor};
 ghost use Rattle.page_boxes.specs.Kept.{AreKept, FillsOnly, LeavesUnboxed, is_due, due_count};
-ghost use Rattle.page_boxes.specs.LaidOut.{is_marked, IsLaidOut, AreLaidOut, GoesOn, ChangesOnlyIn};
-ghost use Rattle.page_boxes.specs.Pages.{seen_screen};
+ghost use Rattle.page_boxes.specs.LaidOut.{is_marked, IsLaidOut, IsMarkedAbove, IsSoFar, MarksMore, ChangesOnlyIn};
+ghost use Rattle.page_boxes.specs.Pages.{seen_screen, IsRootAbove};
 
 use crate::documents::framed_size;
 use crate::laid_out::LaidOut;
 use crate::screens::Screen;
 use block_layout::Inputs;
-use element_tree::{Container, DocumentId};
+use element_tree::{Container, DocumentId, NodeId};
 use kept_layout::Kept;
 use page_tree::PageTree;
 use px_units::Size;
@@ -35,17 +39,21 @@ fn root_inputs(viewport: Size) -> Inputs
     }
 }
 
-// Recomputes the boxes that are due in an Active document, once those of the document that its frame is in are up to date.
+// Recomputes the boxes that are due in an Active document, once those of the document that its frame is in are up to date, given
+// the root element that is shown around it. Returns the one that the document itself shows.
 fn lay_out<L: Ledger>(
     boxes: &mut Kept,
     page: &PageTree,
     screen: Screen,
+    around: Option<NodeId>,
     document: DocumentId,
     steps: &mut Steps<L>,
-)
+) -> Option<NodeId>
     requires kept { AreKept page.now.tree boxes.old }
     requires active { is_active page.now.tree document.0 ≡ true }
-    requires around { IsFreshAbove page.now.tree (seen_screen screen) boxes.old document.0 }
+    requires around { IsRootAbove page.now.tree (seen_screen screen) document.0 (option_map number around) }
+    requires above { IsFreshAbove page.now.tree (seen_screen screen) boxes.old document.0 }
+    ensures shown { option_map number result ≡ (view_of page.now.tree (seen_screen screen) document.0).root }
     ensures laid_out { IsLaidOut page.now.tree (seen_screen screen) boxes.new document.0 }
     ensures others { (other : ℕ) → other ≢ document.0 → IsLaidOut page.now.tree (seen_screen screen) boxes.old other →
         IsLaidOut page.now.tree (seen_screen screen) boxes.new other }
@@ -58,15 +66,33 @@ fn lay_out<L: Ledger>(
         ≡ steps.old + due_count page.now.tree (seen_screen screen) boxes.old }
 {
     let Some(root) = page.root(document) else {
-        return;
+        return None;
     };
-    let Some(size) = framed_size(page, boxes, screen, document) else {
-        return;
+    let Some(size) = framed_size(page, boxes, screen, around, document) else {
+        return None;
     };
     boxes.refresh(page.tree(), root, root_inputs(size), steps);
+    Some(root)
 }
 
-// Lays out an Active document that isn't marked yet, and marks it.
+// Returns the root element that is shown around a document, as it was noted when the document that its frame is in was laid out.
+fn root_around(page: &PageTree, laid_out: &LaidOut, document: DocumentId) -> Option<NodeId>
+    ensures { (screen : WorldScreen) (kept : List Slot) → IsSoFar page.now.tree screen laid_out.now kept →
+        IsMarkedAbove page.now.tree laid_out.now.marks document.0 →
+        IsRootAbove page.now.tree screen document.0 (option_map number result) }
+{
+    let Some(frame) = page.frame_of(document) else {
+        return None;
+    };
+    let holder = page.document_of(frame);
+    if page.is_active(holder) {
+        laid_out.root(holder)
+    } else {
+        None
+    }
+}
+
+// Lays out an Active document, once the one that its frame is in is marked, and marks it.
 fn lay_out_once<L: Ledger>(
     boxes: &mut Kept,
     page: &PageTree,
@@ -78,11 +104,11 @@ fn lay_out_once<L: Ledger>(
     requires kept { AreKept page.now.tree boxes.old }
     requires known { document.0 < 64 }
     requires active { is_active page.now.tree document.0 ≡ true }
-    requires marks { length laid_out.old ≡ 64 }
-    requires around { IsFreshAbove page.now.tree (seen_screen screen) boxes.old document.0 }
-    requires laid_out { AreLaidOut page.now.tree (seen_screen screen) laid_out.old boxes.old }
-    ensures goes { GoesOn page.now.tree (seen_screen screen) laid_out.old laid_out.new boxes.new }
-    ensures marked { is_marked laid_out.new document.0 ≡ true }
+    requires above { IsMarkedAbove page.now.tree laid_out.old.marks document.0 }
+    requires so_far { IsSoFar page.now.tree (seen_screen screen) laid_out.old boxes.old }
+    ensures so_far { IsSoFar page.now.tree (seen_screen screen) laid_out.new boxes.new }
+    ensures more { MarksMore laid_out.old laid_out.new }
+    ensures marked { is_marked laid_out.new.marks document.0 ≡ true }
     ensures left { ChangesOnlyIn page.now.tree (document.0 ∷ []) boxes.old boxes.new }
     ensures kept { AreKept page.now.tree boxes.new }
     ensures slots { length boxes.new ≡ length boxes.old }
@@ -91,15 +117,13 @@ fn lay_out_once<L: Ledger>(
     ensures ticks { steps.new + due_count page.now.tree (seen_screen screen) boxes.new
         ≡ steps.old + due_count page.now.tree (seen_screen screen) boxes.old }
 {
-    if laid_out.has(document) {
-        return;
-    }
-    lay_out(boxes, page, screen, document, steps);
-    laid_out.mark(document);
+    let around = root_around(page, laid_out, document);
+    let root = lay_out(boxes, page, screen, around, document, steps);
+    laid_out.mark(document, root);
 }
 
-// Lays out a document after its ancestor documents, each unless it is already marked, following at most `high` frames, which
-// lead up to `top`.
+// Lays out a document that isn't marked, after its ancestor documents up to the first that is marked, following at most `high`
+// frames, which lead up to `top`.
 fn lay_out_up<L: Ledger>(
     boxes: &mut Kept,
     page: &PageTree,
@@ -112,11 +136,10 @@ fn lay_out_up<L: Ledger>(
     requires kept { AreKept page.now.tree boxes.old }
     requires framed { AreFramed page.now.tree }
     requires leads { is_active page.now.tree document.0 ≡ true → first_of_list (way_down high page.now.tree document.0) ≡ Some 0 }
-    requires marks { length laid_out.old ≡ 64 }
-    requires laid_out { AreLaidOut page.now.tree (seen_screen screen) laid_out.old boxes.old }
-    ensures goes { GoesOn page.now.tree (seen_screen screen) laid_out.old laid_out.new boxes.new }
-    ensures marked { is_active page.now.tree document.0 ≡ true → is_marked laid_out.new document.0 ≡ true }
-    ensures above { is_active page.now.tree document.0 ≡ true → IsFreshAbove page.now.tree (seen_screen screen) boxes.new document.0 }
+    requires so_far { IsSoFar page.now.tree (seen_screen screen) laid_out.old boxes.old }
+    ensures so_far { IsSoFar page.now.tree (seen_screen screen) laid_out.new boxes.new }
+    ensures more { MarksMore laid_out.old laid_out.new }
+    ensures marked { is_active page.now.tree document.0 ≡ true → is_marked laid_out.new.marks document.0 ≡ true }
     ensures left { ChangesOnlyIn page.now.tree (way_down high page.now.tree document.0) boxes.old boxes.new }
     ensures kept { AreKept page.now.tree boxes.new }
     ensures slots { length boxes.new ≡ length boxes.old }
@@ -129,6 +152,9 @@ fn lay_out_up<L: Ledger>(
         return;
     }
     if !page.is_active(document) {
+        return;
+    }
+    if laid_out.has(document) {
         return;
     }
     match page.frame_of(document) {

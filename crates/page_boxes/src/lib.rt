@@ -22,7 +22,10 @@ mod ranges;
 mod readings;
 mod screens;
 
-pub use documents::{ShownRoot, box_below, has_box, has_box_below, shown_root, viewport_of};
+pub use documents::{
+    ShownRoot, box_below, has_box, has_box_below, root_above, shown_root, shown_root_below,
+    viewport_below, viewport_of,
+};
 pub use exact::undue_boxes_are_exact;
 pub use found::boxed_offsets;
 pub use in_force::{boxed_offset, is_at_start, shown_offset};

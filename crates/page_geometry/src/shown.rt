@@ -12,7 +12,7 @@ ghost use Rattle.block_layout.specs.Trees.{layout_tree};
 ghost use Rattle.page_tree.specs.Items.{IsNatural, style_in, kind_in};
 ghost use Rattle.container_model.specs.Seen.{seen_container};
 ghost use Rattle.page_boxes.specs.Fresh.{IsFresh};
-ghost use Rattle.page_boxes.specs.Pages.{seen_screen, IsScreen};
+ghost use Rattle.page_boxes.specs.Pages.{seen_screen, IsScreen, IsRootAbove};
 ghost use Rattle.page_geometry.specs.Documents.{IsViewOffset};
 ghost use Rattle.page_geometry.specs.Found.{IsFound, IsBeginning};
 ghost use Rattle.page_geometry.specs.Scenes.{IsPageTree};
@@ -20,11 +20,11 @@ ghost use Rattle.page_geometry.specs.Scenes.{IsPageTree};
 use crate::documents::{FoundDocument, FoundDocuments};
 use crate::origins::origin;
 use crate::shown_document::ShownDocument;
-use crate::view::{DocumentView, view_in};
+use crate::view::{DocumentView, view_below};
 use element_tree::{Container, DocumentId, NodeId, Tree};
 use kept_layout::Kept;
 use number_map::NumberMap;
-use page_boxes::{Screen, boxed_offsets};
+use page_boxes::{Screen, boxed_offsets, shown_root};
 use page_tree::{Element, PageTree};
 use positioned_layout::{Holder, holder_of};
 use px_units::Point;
@@ -232,7 +232,27 @@ impl<'a> Shown<'a> {
         self.page.document_of(node)
     }
 
-    // Returns the view of a document, climbing from frame to frame unless it was precomputed.
+    // Returns the root element that a document shows, climbing from frame to frame unless it was precomputed.
+    fn root_of(&self, document: DocumentId) -> Option<NodeId>
+        ensures { option_map number result ≡ (view_of self.now.tree self.now.screen document.0).root }
+    {
+        match self.found(document) {
+            Some(found) => found.view.root,
+            None => shown_root(self.page, document),
+        }
+    }
+
+    // Returns the root element that is shown around a document, by the document that its frame is in.
+    fn root_above(&self, document: DocumentId) -> Option<NodeId>
+        ensures { IsRootAbove self.now.tree self.now.screen document.0 (option_map number result) }
+    {
+        match self.frame_of(document) {
+            Some(frame) => self.root_of(self.document_of(frame)),
+            None => None,
+        }
+    }
+
+    // Returns the view of a document, by what is shown around it unless it was precomputed.
     fn view_of(&self, document: DocumentId) -> DocumentView
         ensures root { option_map number result.root ≡ (view_of self.now.tree self.now.screen document.0).root }
         ensures size { result.size ≡ as_size (pair_of (viewport_of self.now document.0)) }
@@ -241,7 +261,13 @@ impl<'a> Shown<'a> {
     {
         match self.found(document) {
             Some(found) => found.view,
-            None => view_in(self.page, self.boxes, self.screen, document),
+            None => view_below(
+                self.page,
+                self.boxes,
+                self.screen,
+                self.root_above(document),
+                document,
+            ),
         }
     }
 

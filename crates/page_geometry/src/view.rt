@@ -6,11 +6,11 @@ ghost use Rattle.element_tree.specs.Links.{number};
 ghost use Rattle.block_layout.specs.Seen.{as_size};
 ghost use Rattle.page_tree.specs.Items.{IsNatural};
 ghost use Rattle.page_boxes.specs.Fresh.{IsFreshAbove};
-ghost use Rattle.page_boxes.specs.Pages.{seen_screen, IsScreen};
+ghost use Rattle.page_boxes.specs.Pages.{seen_screen, IsScreen, IsRootAbove};
 
 use element_tree::{DocumentId, NodeId};
 use kept_layout::Kept;
-use page_boxes::{Screen, shown_root, viewport_of};
+use page_boxes::{Screen, root_above, shown_root_below, viewport_below};
 use page_tree::PageTree;
 use px_units::{Point, Size};
 
@@ -37,9 +37,28 @@ pub(crate) fn view_in(
     ensures range { IsNatural result.size }
     ensures offset { result.offset ≡ None }
 {
+    view_below(page, boxes, screen, root_above(page, document), document)
+}
+
+// Finds them by the root element that is shown around the document.
+pub(crate) fn view_below(
+    page: &PageTree,
+    boxes: &Kept,
+    screen: Screen,
+    around: Option<NodeId>,
+    document: DocumentId,
+) -> DocumentView
+    requires screen { IsScreen screen }
+    requires around { IsRootAbove page.now.tree (seen_screen screen) document.0 (option_map number around) }
+    requires above { IsFreshAbove page.now.tree (seen_screen screen) boxes.now document.0 }
+    ensures root { option_map number result.root ≡ (view_of page.now.tree (seen_screen screen) document.0).root }
+    ensures size { result.size ≡ as_size (pair_of (viewport_of page.now.tree (seen_screen screen) document.0)) }
+    ensures range { IsNatural result.size }
+    ensures offset { result.offset ≡ None }
+{
     DocumentView {
-        root: shown_root(page, document),
-        size: viewport_of(page, boxes, screen, document),
+        root: shown_root_below(page, around, document),
+        size: viewport_below(page, boxes, screen, around, document),
         offset: None,
     }
 }

@@ -2,3 +2,4 @@ mod Paths
 mod Parents
 mod Marking
 mod Making
+mod Current

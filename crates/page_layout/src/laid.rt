@@ -21,6 +21,7 @@ ghost use Rattle.page_boxes.specs.Fresh.{IsFresh, IsFreshIn, IsFreshAbove, IsFre
 ghost use Rattle.page_boxes.specs.Kept.{AreKept, FillsOnly, LeavesUnboxed, IsExact, is_due, due_count};
 ghost use Rattle.page_boxes.specs.Pages.{seen_screen};
 ghost use Rattle.page_layout.specs.Marks.{element_of, is_over, MarksOnly, MarksNone};
+ghost use Rattle.page_layout.specs.Views.{IsUpToDate};
 
 use crate::marks::{element_of, mark, parent_of};
 use block_layout::ItemKind;
@@ -40,22 +41,23 @@ use text_io::{LimitKind, Name, ThrowKind, Version};
 /// (`specs/Views.antt`).
 ///
 /// Each call that changes the tree or a style marks what it changed, so that the cache is always sound for the page;
-/// `refresh` recomputes what is due.
+/// `refresh` recomputes what is due, and notes the screen; until the page changes, a refresh for that screen looks at no box.
 #[derive(Drop)]
 pub struct LaidTree {
     page: PageTree,
     boxes: Kept,
+    // The screen for which all boxes are up to date, if that is known.
+    current: Option<Screen>,
 }
 
 impl Model for LaidTree {
-    ghost use Rattle.page_layout.specs.Views.{LaidElements, seen_laid};
-    ghost use Rattle.page_boxes.specs.Kept.{AreKept};
+    ghost use Rattle.page_layout.specs.Views.{LaidElements, seen_laid, AreNoted};
 
     ghost Value = { LaidElements };
 
     ghost view = { λ l. seen_laid l.page l.boxes };
 
-    ghost invariant = { λ l. AreKept l.page.tree l.boxes };
+    ghost invariant = { λ l. AreNoted l.page.tree l.current l.boxes };
 }
 
 impl LaidTree {
@@ -75,7 +77,15 @@ impl LaidTree {
         Ok(LaidTree {
             page,
             boxes: Kept::new(alloc),
+            current: None,
         })
+    }
+
+    // Tells whether all boxes are known to be up to date for this screen of `top`.
+    fn is_up_to_date(&self, screen: Screen) -> bool
+        ensures { result ≡ true → IsUpToDate self.now.elements.tree (seen_screen screen) self.now.kept }
+    {
+        self.current == Some(screen)
     }
 
     /// Returns the elements and documents.
@@ -113,6 +123,7 @@ impl LaidTree {
         ensures refused { IfErr result (IsMakeFault self.old.elements) }
         ensures marks { MarksNone self.old.kept self.new.kept }
     {
+        self.current = None;
         let node = self.page.reserve()?;
         let Ok(()) = self.boxes.add(node) else {
             return Err(MakeFault::Memory);
@@ -146,6 +157,7 @@ impl LaidTree {
         ensures marks { MarksNone self.old.kept self.new.kept }
     {
         let _node = self.reserve()?;
+        self.current = None;
         self.page.make(document, name, kind)
     }
 
@@ -181,6 +193,7 @@ impl LaidTree {
             return Err(MakeFault::Limit(LimitKind::Documents));
         }
         let _node = self.reserve()?;
+        self.current = None;
         self.page.make_frame(document, name)
     }
 
@@ -214,6 +227,7 @@ impl LaidTree {
         let from = parent_of(&self.page, node);
         let to = element_of(container);
         self.page.place(container, node, sibling)?;
+        self.current = None;
         mark(&mut self.boxes, &self.page, from);
         mark(&mut self.boxes, &self.page, to);
         Ok(())
@@ -231,6 +245,7 @@ impl LaidTree {
     {
         let parent = parent_of(&self.page, node);
         self.page.remove(node);
+        self.current = None;
         mark(&mut self.boxes, &self.page, parent);
     }
 
@@ -245,6 +260,7 @@ impl LaidTree {
         ensures marks { MarksOnly (is_over self.new.elements.tree (Some node.0)) self.old.kept self.new.kept }
     {
         self.page.set(node, declaration);
+        self.current = None;
         mark(&mut self.boxes, &self.page, Some(node));
     }
 
@@ -263,6 +279,7 @@ impl LaidTree {
         ensures marks { OnOk result (MarksOnly (is_over self.new.elements.tree (Some node.0)) self.old.kept self.new.kept) }
     {
         self.page.grow(node, axis, by)?;
+        self.current = None;
         mark(&mut self.boxes, &self.page, Some(node));
         Ok(())
     }
@@ -284,6 +301,7 @@ impl LaidTree {
         ensures marks { OnOk result (MarksOnly (is_over self.new.elements.tree (Some node.0)) self.old.kept self.new.kept) }
     {
         self.page.load(node, size)?;
+        self.current = None;
         mark(&mut self.boxes, &self.page, Some(node));
         Ok(())
     }
@@ -299,7 +317,11 @@ impl LaidTree {
         ensures fills { FillsOnly self.old.kept self.new.kept }
         ensures ticks { steps.new + due_count self.old.elements.tree (seen_screen screen) self.new.kept ≡ steps.old + due_count self.old.elements.tree (seen_screen screen) self.old.kept }
     {
+        if self.is_up_to_date(screen) {
+            return;
+        }
         refresh(&mut self.boxes, &self.page, screen, steps);
+        self.current = Some(screen);
     }
 
     /// Recomputes the boxes that are due in a document and its ancestor documents, for this screen of `top`: those of the
@@ -320,6 +342,10 @@ impl LaidTree {
         ensures fills { FillsOnly self.old.kept self.new.kept }
         ensures ticks { steps.new + due_count self.old.elements.tree (seen_screen screen) self.new.kept ≡ steps.old + due_count self.old.elements.tree (seen_screen screen) self.old.kept }
     {
+        if self.is_up_to_date(screen) {
+            return;
+        }
+        self.current = None;
         refresh_in(&mut self.boxes, &self.page, screen, document, steps);
     }
 
@@ -340,6 +366,10 @@ impl LaidTree {
         ensures fills { FillsOnly self.old.kept self.new.kept }
         ensures ticks { steps.new + due_count self.old.elements.tree (seen_screen screen) self.new.kept ≡ steps.old + due_count self.old.elements.tree (seen_screen screen) self.old.kept }
     {
+        if self.is_up_to_date(screen) {
+            return;
+        }
+        self.current = None;
         refresh_for(&mut self.boxes, &self.page, screen, container, steps);
     }
 }

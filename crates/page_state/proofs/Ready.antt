@@ -11,11 +11,11 @@ use Rattle.page_model.specs.Gathering.{sight_of}
 use Rattle.page_model.specs.Intersections.{Settled, is_news, settled, watchers}
 use Rattle.page_model.specs.Ranges.{Counts, IsIntersectionObserverIn, IsPresentIn}
 use Rattle.page_model.specs.Shown.{Shown}
-use Rattle.page_model.specs.Tasks.{without_notifying}
+use Rattle.page_model.specs.Tasks.{is_notifying, without_notifying}
 use Rattle.page_laws.specs.Ready.{IsReadyFor, with_first}
 use Rattle.page_laws.proofs.Lists.{IsKept, all-append, all-mapped, changed, still-kept, then-kept}
 use Rattle.page_laws.proofs.Parts.{registered-in}
-use Rattle.page_laws.proofs.Changes.{IsNext, same-next, timer-next, frame-next, matched-next, tasks-next, unnotified-next, intersection-next, reported-next, news-in, all-filter-map, settling-kept}
+use Rattle.page_laws.proofs.Changes.{IsNext, same-next, timer-next, frame-next, matched-next, tasks-next, notified-next, then-next, unnotified-next, intersection-next, reported-next, news-in, all-filter-map, settling-kept}
 use Rattle.page_laws.proofs.Ready.{ready-next, ready-done}
 use Rattle.element_tree.specs.declared.node.NodeId.{NodeId}
 use Rattle.event_tables.specs.declared.events.Task.{Task}
@@ -29,6 +29,7 @@ use Rattle.intersection_observer.specs.Serials.{registrations_at}
 use Rattle.intersection_observer.specs.Settling.{settled_if, settled_at, settled_standing, with_settled, each_settled}
 use Rattle.intersection_update.specs.Updating.{found_through, first_updated, IsStopped}
 use Rattle.page_state.specs.Answers.{Applied, lines_of}
+use Rattle.page_state.specs.Notices.{once_told}
 use Rattle.page_state.specs.Queries.{once_evaluated}
 use Rattle.page_state.specs.Rounds.{once_reported}
 use Rattle.page_names.specs.Things.{present_of, IsSubject}
@@ -166,3 +167,13 @@ update_stopped shown margins tree document time world now stopped =
     subst (λ (it : IntersectionObservers). IsKept (IsIntersectionObserverIn counts) before.made it.made) (sym stopped.settled)
     (then-kept (settling-kept counts time (found_through shown margins) (watchers tree document (record before { made = take (stopped.number) (before.made) })) before)
     (each-kept counts time _ (take (stopped.place) (registrations_at first (stopped.number))) first)))
+
+-- an update that was refused memory, once the document is told
+told_next : (tells : Bool) (document : ℕ) (world : World) → document < length world.tree.documents → IsNext world (once_told tells document world)
+told_next true document world is = notified-next world document (is_notifying document (world.notifying)) refl is
+told_next false document world is = same-next world
+
+pub stopped_told : (shown : Shown) (margins : List Margins) (tree : Tree) (document time : ℕ) (tells : Bool) (world : World) (now : IntersectionObservers) → document < length world.tree.documents →
+    IsStopped shown margins tree document time world.intersection_observers now → IsNext world (once_told tells document (record world { intersection_observers = now }))
+stopped_told shown margins tree document time tells world now is stopped =
+    then-next (update_stopped shown margins tree document time world now stopped) (told_next tells document (record world { intersection_observers = now }) is)

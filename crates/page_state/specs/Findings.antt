@@ -1,8 +1,8 @@
 -- How commands and updates change what a page keeps of registrations. That it is kept, and when it is computed, is this project's
 -- own.
-use Rattle.std.specs.Prelude.{◌≡◌, ◌<◌, ◌≤◌, ◌+◌, ◌⊎◌, ℕ, false, List, IsSome, IfSome}
+use Rattle.std.specs.Prelude.{◌≡◌, ◌<◌, ◌≤◌, ◌+◌, ℕ, false, List, IsSome, IfSome}
 use Rattle.script_model.specs.Margins.{Margins}
-use Rattle.page_model.specs.World.{IntersectionObservers}
+use Rattle.page_model.specs.World.{World, IntersectionObservers}
 use Rattle.page_model.specs.Intersections.{is_rooted_in}
 use Rattle.page_model.specs.Shown.{Shown, shown_of}
 use Rattle.element_tree.specs.declared.container.Container.{Container}
@@ -18,9 +18,9 @@ use Rattle.candidate_index.specs.Held.{kept_of}
 use Rattle.candidate_index.specs.Registrations.{place_of, observer_of, target_of}
 use Rattle.kept_findings.specs.Held.{HeldFindings}
 use Rattle.page_geometry.specs.Scenes.{telling_of}
-use Rattle.intersection_update.specs.Keeping.{HaveChains, IsLookedAt, IsSeen, IsOff, is_stale_in, HasCurrentClip, KeepsComputed, IsRefused}
+use Rattle.intersection_update.specs.Keeping.{HaveChains, IsLookedAt, IsSeen, IsOff, is_stale_in, HasCurrentClip, KeepsComputed}
 use Rattle.intersection_update.specs.Steps.{most_steps}
-use Rattle.intersection_update.specs.Updating.{found_through}
+use Rattle.intersection_update.specs.Updating.{found_through, updated}
 use Rattle.page_state.specs.Boxes.{due_count}
 use Rattle.page_state.specs.Views.{PageView}
 
@@ -62,10 +62,9 @@ pub record AreUpdated (shown : Shown) (margins : List Margins) (document : ℕ) 
   pub current : (chained : HaveChains shown) → found.clips.touches.count < last_number → (serial : ℕ) → IsLookedAt shown.tree document it serial →
       HasCurrentClip shown chained it found.clips serial
 
--- an update that was refused memory: at a registration, or only for the notify task, after all registrations were settled
-abbrev pub IsUnfinished : (shown : Shown) → List Margins → HaveChains shown → (document time : ℕ) → (before now : IntersectionObservers) → (old new : HeldFindings) → Type 0
-IsUnfinished shown margins chained document time before now old new =
-    IsRefused shown margins chained document time before now old.kept new.kept ⊎ AreUpdated shown margins document now new
+-- the observers of a world, with those that are updated with a document settled by what is found in the world
+abbrev pub settled_now : ℕ → World → IntersectionObservers
+settled_now document world = updated (shown_of world) (world.scroll_margins) (world.tree) document (world.clock) (world.intersection_observers)
 
 -- the steps of an update and the boxes that are due afterwards are together at most the sum of these: the boxes that were due
 -- before; one for each stale registration of the observers rooted in the document; and for each of their registrations whose

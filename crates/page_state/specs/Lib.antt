@@ -10,3 +10,4 @@ pub mod Whole
 pub mod Labels
 pub mod Rounds
 pub mod Watchers
+pub mod Notices

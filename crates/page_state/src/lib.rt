@@ -11,6 +11,7 @@ mod dropping;
 mod first;
 mod intersections;
 mod labels;
+mod listing;
 mod lookups;
 mod page;
 mod queries;

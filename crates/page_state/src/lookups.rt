@@ -1,9 +1,10 @@
-//! Operands looked up on a page; what is found exists.
+//! Operands and names looked up on a page; what is found exists. None of these calls allocates.
 
 ghost use Rattle.std.specs.Prelude.{◌<◌, length, option_map, IfOk};
 ghost use Rattle.element_tree.specs.Documents.{document_number};
 ghost use Rattle.element_tree.specs.Links.{number};
-ghost use Rattle.page_model.specs.Operands.{document_named, element_meant, container_meant, resize_observer_named, intersection_observer_named, query_list_named, root_meant, event_target_meant};
+ghost use Rattle.script_model.specs.Syntax.{Named};
+ghost use Rattle.page_model.specs.Operands.{NoEntry, document_named, element_meant, container_meant, resize_observer_named, intersection_observer_named, query_list_named, root_meant, event_target_meant};
 ghost use Rattle.container_model.specs.Seen.{seen_container};
 ghost use Rattle.event_tables.specs.Seen.{seen_target};
 ghost use Rattle.page_state.specs.Labels.{IsIn};
@@ -23,11 +24,21 @@ use script_syntax::{Aim, Operand};
 use text_io::{Name, ThrowKind};
 
 impl Page {
-    pub(crate) fn document(&self, name: Name) -> Result<DocumentId, ThrowKind>
+    /// Returns the document with this name: a `ReferenceError` if the name refers to nothing, a `TypeError` if it refers to
+    /// something else.
+    pub fn document(&self, name: Name) -> Result<DocumentId, ThrowKind>
         ensures answer { Finds document_number result (document_named self.now.world.names name) }
         ensures there { IfOk result (λ document. document.0 < length self.now.world.tree.documents) }
     {
         self.names.document(name)
+    }
+
+    /// Returns the element with this name, with the same exceptions.
+    pub fn element_named(&self, name: Name) -> Result<NodeId, ThrowKind>
+        ensures answer { Finds number result (element_meant self.now.world.names NoEntry (Named name)) }
+        ensures there { IfOk result (λ node. node.0 < length self.now.world.tree.elements) }
+    {
+        self.element(Operand::Named(name), None)
     }
 
     pub(crate) fn element(
@@ -54,14 +65,16 @@ impl Page {
         self.names.container(operand, subject)
     }
 
-    pub(crate) fn observer(&self, name: Name) -> Result<ObserverId, ThrowKind>
+    /// Returns the resize observer with this name, with the same exceptions.
+    pub fn observer(&self, name: Name) -> Result<ObserverId, ThrowKind>
         ensures answer { Finds (λ (observer : ObserverId). observer.0) result (resize_observer_named self.now.world.names name) }
         ensures there { IfOk result (λ observer. observer.0 < length self.now.world.resize_observers.made) }
     {
         self.names.observer(name)
     }
 
-    pub(crate) fn watcher(&self, name: Name) -> Result<WatcherId, ThrowKind>
+    /// Returns the intersection observer with this name, with the same exceptions.
+    pub fn watcher(&self, name: Name) -> Result<WatcherId, ThrowKind>
         ensures answer { Finds (λ (watcher : WatcherId). watcher.0) result (intersection_observer_named self.now.world.names name) }
         ensures there { IfOk result (λ watcher. watcher.0 < length self.now.world.intersection_observers.made) }
     {
@@ -87,7 +100,8 @@ impl Page {
         }
     }
 
-    pub(crate) fn query_list(&self, name: Name) -> Result<u32, ThrowKind>
+    /// Returns the number of the media query list with this name, with the same exceptions.
+    pub fn query_list(&self, name: Name) -> Result<u32, ThrowKind>
         ensures answer { Finds (λ query. query) result (query_list_named self.now.world.names name) }
         ensures there { IfOk result (λ query. query < length self.now.world.queries) }
     {

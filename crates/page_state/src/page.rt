@@ -35,6 +35,7 @@ use crate::{dropping, first};
 use element_tree::{Container, DocumentId, NodeId};
 use event_tables::{FrameCallbacks, Listeners, Tasks, Timers};
 use intersection_observer::{WatcherId, Watchers};
+use intersection_update::is_watched;
 use kept_findings::KeptFindings;
 use page_boxes::{Screen, viewport_of};
 use page_geometry::{Shown, ShownDocument};
@@ -482,6 +483,26 @@ pub(crate) fn shown_now<'a>(laid: &'a LaidTree, scrolls: &'a Scrolls, screen: Sc
     Shown::new(laid.page(), laid.boxes(), scrolls, screen)
 }
 
+// Returns the geometry of a page without due boxes, for reading the sizes of what is observed of a document. If any observer is of
+// the document, many elements may be read, so the views are precomputed.
+pub(crate) fn sizes_now<'a>(
+    laid: &'a LaidTree,
+    scrolls: &'a Scrolls,
+    screen: Screen,
+    observers: &Observers,
+    document: DocumentId,
+) -> Shown<'a>
+    requires screen { IsScreen screen }
+    requires done { (n : ℕ) → is_due laid.now.elements.tree (seen_screen screen) laid.now.kept n ≡ false }
+    ensures { result ≡ shown_with laid.now.elements.tree (seen_screen screen) scrolls.now }
+{
+    let shown = shown_now(laid, scrolls, screen);
+    match observers.of_document(document, 0) {
+        Some(_) => shown.with_views(),
+        None => shown,
+    }
+}
+
 // Returns the geometry of a document whose boxes, and those of the document that its frame is in, are up to date.
 pub(crate) fn shown_in<'a>(
     laid: &'a LaidTree,
@@ -497,21 +518,22 @@ pub(crate) fn shown_in<'a>(
     ShownDocument::new(laid.page(), laid.boxes(), scrolls, screen, document)
 }
 
-// Returns the geometry of a page without due boxes, for an update of intersection observers. If there are any observers, many
-// elements may be read, so the views and scroll offsets are precomputed.
+// Returns the geometry of a page without due boxes, for an update of the intersection observers of a document. If the update looks
+// at any registration, many elements may be read, so the views and scroll offsets are precomputed.
 pub(crate) fn shown_at_once<'a>(
     alloc: Global,
     laid: &'a LaidTree,
     scrolls: &'a Scrolls,
     screen: Screen,
     watchers: &Watchers,
+    document: DocumentId,
 ) -> Shown<'a>
     requires screen { IsScreen screen }
     requires done { (n : ℕ) → is_due laid.now.elements.tree (seen_screen screen) laid.now.kept n ≡ false }
     ensures { result ≡ shown_with laid.now.elements.tree (seen_screen screen) scrolls.now }
 {
     let shown = shown_now(laid, scrolls, screen);
-    if watchers.count() > 0 {
+    if is_watched(laid.page(), watchers, document) {
         shown.with_documents(alloc)
     } else {
         shown

@@ -11,7 +11,7 @@ ghost use Rattle.std.specs.List.{AllByRecursion};
 ghost use Rattle.page_state.specs.Boxes.{Computes};
 ghost use Rattle.page_state.specs.Rounds.{next_turn, once_reported};
 
-use crate::page::{Page, shown_now};
+use crate::page::{Page, shown_now, sizes_now};
 use depth_gather::Delivery;
 use element_tree::DocumentId;
 use resize_observer::ObserverId;
@@ -34,7 +34,13 @@ impl Page {
         ensures ready { (handlers : ℕ) → IsReadyFor handlers self.old.world → IsReadyFor handlers self.new.world }
     {
         self.laid.refresh(self.screen, steps);
-        let sizes = shown_now(&self.laid, &self.scrolls, self.screen).with_views();
+        let sizes = sizes_now(
+            &self.laid,
+            &self.scrolls,
+            self.screen,
+            &self.observers,
+            document,
+        );
         depth_gather::gather(&mut self.observers, &sizes, document, depth)
     }
 
@@ -61,7 +67,7 @@ impl Page {
         ensures ready { (handlers : ℕ) → IsReadyFor handlers self.old.world → IsReadyFor handlers self.new.world }
     {
         self.laid.refresh(self.screen, steps);
-        let sizes = shown_now(&self.laid, &self.scrolls, self.screen);
+        let sizes = shown_now(&self.laid, &self.scrolls, self.screen).with_views();
         let alloc = *self.queries.allocator();
         depth_gather::next_delivery(alloc, &mut self.observers, &sizes, document, place)
     }

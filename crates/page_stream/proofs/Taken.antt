@@ -4,8 +4,8 @@ use Rattle.std.specs.Prelude.{◌==◌, Some, None, is_some, slice_get, slice_in
 use Rattle.std.specs.List.{list_any}
 use Rattle.std.proofs.lemmas.List.{append-nil, map-append, length-map}
 use Rattle.std.proofs.lemmas.List.Sums.{count_by-le-length}
-use Rattle.trace_summary.specs.Lines.{first_line, behind_line}
-use Rattle.trace_summary.proofs.Splits.{line_splits}
+use Rattle.text_lines.specs.Lines.{first_line, behind_line}
+use Rattle.text_lines.proofs.Splits.{line_splits}
 use Rattle.trace_judge.specs.Lines.{lines_of}
 use Rattle.trace_judge.proofs.Splits.{lines_by_first, first_some}
 use Rattle.page_stream.specs.declared.splitting.Splitting.{Splitting}

@@ -2,7 +2,7 @@
 
 ghost use Rattle.std.specs.Prelude.{◌≡◌, ◌+◌, ◌-◌, ◌^◌, ◌<◌, ◌≤◌, ℕ, List, [], ◌∷◌, ◌++◌, length, slice_index, cond, false, bytes_eq, Some, Err, IfErr, OnOk};
 ghost use Rattle.std.specs.List.{list_any, position_or_len};
-ghost use Rattle.trace_summary.specs.Lines.{first_line, behind_line};
+ghost use Rattle.text_lines.specs.Lines.{first_line, behind_line};
 ghost use Rattle.page_stream.specs.Pages.{page_line_past};
 ghost use Rattle.page_stream.specs.Parts.{OwnedLine};
 ghost use Rattle.page_stream.specs.Splits.{IsSplit, SplitTo};

@@ -10,7 +10,7 @@ use crate::splitting::Splitting;
 use std::alloc::{AllocError, Global};
 use std::marker::Model;
 use text_io::Name;
-use trace_summary::split_line;
+use text_lines::split_line;
 
 /// A line of a stream that isn't a page line.
 #[derive(Clone, Copy, Debug, PartialEq, Eq)]
@@ -55,6 +55,13 @@ fn text_of<'a>(source: &'a [u8], part: &Part) -> &'a [u8]
 }
 
 impl<'a> Stream<'a> {
+    /// Returns the bytes of the source, of which the parts are ranges.
+    pub fn source(&self) -> &[u8]
+        ensures { result.now ≡ self.now }
+    {
+        self.source
+    }
+
     /// Returns the pages in the order of their first page line.
     pub fn pages(&self) -> &[Name]
         ensures { result.now ≡ pages_of self.now }

@@ -7,6 +7,7 @@ ghost use Rattle.page_boxes.specs.Fresh.{IsFresh};
 ghost use Rattle.page_boxes.specs.Kept.{AreKept};
 ghost use Rattle.page_boxes.specs.Pages.{seen_screen};
 
+use crate::same::same;
 use block_layout::ItemKind;
 use element_tree::{Container, DocumentId, NodeId};
 use intersection_observer::{Root, Watchers};
@@ -44,7 +45,7 @@ fn make_one(rt: &impl Abort, page: &mut PageTree, number: u32, is_frame: bool) -
     } else {
         page.make(DocumentId(0), any_name(rt), ItemKind::Block)?
     };
-    assert_eq!(rt; made, NodeId(number));
+    same(rt, &made, &NodeId(number), "a node that is made");
     Ok(())
 }
 
@@ -212,7 +213,12 @@ pub(crate) fn framed_page(rt: &impl Abort, alloc: Global) -> Result<PageTree, Fa
         (4, None),
         (5, None),
     ] {
-        assert_eq!(rt; page.framed(NodeId(node)), framed);
+        same(
+            rt,
+            &page.framed(NodeId(node)),
+            &framed,
+            "the document of a frame",
+        );
     }
     Ok(page)
 }
@@ -282,7 +288,7 @@ pub(crate) type Life = (Edit, &'static str, &'static str);
 
 fn live(rt: &impl Abort, alloc: Global, page: &mut PageTree, life: Life) -> Result<(), Fail> {
     let (edit, answered, wanted) = life;
-    assert_eq!(rt; apply(rt, page, edit), answered, "before {wanted}");
+    same(rt, &apply(rt, page, edit), &answered, wanted);
     let mut now = String::new(alloc);
     push_life(&mut now, page)?;
     assert!(rt;

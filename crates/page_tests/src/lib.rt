@@ -15,3 +15,5 @@ mod page_layout_tests;
 mod page_tree_tests;
 #[cfg(test)]
 mod readme_examples;
+#[cfg(test)]
+mod same;

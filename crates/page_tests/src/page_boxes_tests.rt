@@ -7,6 +7,7 @@ ghost use Rattle.page_boxes.specs.Kept.{AreKept};
 ghost use Rattle.page_boxes.specs.Pages.{seen_screen, IsScreen};
 
 use crate::common::{SCREEN, all_boxes, any_name, empty_slots, make_elements, put, remove, set};
+use crate::same::same;
 use block_layout::ItemKind;
 use element_tree::{Container, DocumentId, NodeId};
 use kept_layout::Kept;
@@ -110,9 +111,11 @@ fn kind_of(node: u32) -> ItemKind
 
 fn make_with_image(rt: &impl Abort, page: &mut PageTree) -> Result<(), Fail> {
     for number in 0..8 {
-        assert_eq!(rt;
-            page.make(DocumentId(0), any_name(rt), kind_of(number))?,
-            NodeId(number)
+        same(
+            rt,
+            &page.make(DocumentId(0), any_name(rt), kind_of(number))?,
+            &NodeId(number),
+            "a node that is made",
         );
     }
     Ok(())
@@ -170,9 +173,9 @@ fn screen_of(is_narrow: bool) -> Screen
 fn see_content(rt: &impl Abort, shown: &Shown<'_>, node: u32, content: (i64, i64, i64, i64)) {
     let (left, top, width, height) = content;
     let corner = shown.corner_of(NodeId(node));
-    assert_eq!(rt; corner, Point { left, top }, "{node}");
+    same(rt, &corner, &Point { left, top }, node);
     let size = shown.size_of(NodeId(node), BoxKind::Content);
-    assert_eq!(rt; size, Size { width, height }, "{node}");
+    same(rt, &size, &Size { width, height }, node);
 }
 
 // Reads the page, if this is what the step does.
@@ -192,13 +195,18 @@ fn see(
     match step {
         Step::Read(node, edges) => {
             let found = shown.read(Container::Element(NodeId(node)));
-            assert_eq!(rt; found, reading(edges, 0), "{node}");
-            assert_eq!(rt; has_box(page, NodeId(node)), edges.2 != 0, "{node}");
+            same(rt, &found, &reading(edges, 0), node);
+            same(rt, &has_box(page, NodeId(node)), &(edges.2 != 0), node);
         }
         Step::Content(node, content) => see_content(rt, &shown, node, content),
         Step::Top(width, height) => {
             let found = shown.read(Container::Document(DocumentId(0)));
-            assert_eq!(rt; found, reading((0, 0, width, height), 0));
+            same(
+                rt,
+                &found,
+                &reading((0, 0, width, height), 0),
+                "the viewport",
+            );
         }
         _ => {}
     }
@@ -541,7 +549,12 @@ fn read_alone(
     let found = shown.read(Container::Element(NodeId(node)));
     let rect = shown.border_rect(NodeId(node));
     let scrolled = shown.with_offset();
-    assert_eq!(rt; scrolled.read(Container::Element(NodeId(node))), found);
+    same(
+        rt,
+        &scrolled.read(Container::Element(NodeId(node))),
+        &found,
+        node,
+    );
     Ok((found, rect))
 }
 
@@ -606,20 +619,22 @@ fn read_twice(
 ) -> Result<Reading, Fail> {
     let screen = screen_of(is_narrow);
     let (found, rect) = read_all(rt, alloc, page, scrolls, screen, node)?;
-    assert_eq!(rt; rect, found.rect);
+    same(rt, &rect, &found.rect, node);
     let again = read_looked(rt, alloc, page, scrolls, screen, node)?;
-    assert_eq!(rt; again, (found, rect));
+    same(rt, &again, &(found, rect), node);
     let alone = read_alone(rt, alloc, page, scrolls, screen, node)?;
-    assert_eq!(rt; alone, (found, rect));
+    same(rt, &alone, &(found, rect), node);
     let size = size_some(rt, alloc, page, screen, node)?;
     let viewed = size_viewed(rt, alloc, page, scrolls, screen, node)?;
-    assert_eq!(rt; viewed, size);
-    assert_eq!(rt;
-        (size.width, size.height),
-        (
+    same(rt, &viewed, &size, node);
+    same(
+        rt,
+        &(size.width, size.height),
+        &(
             rect.right.wrapping_sub(rect.left),
-            rect.bottom.wrapping_sub(rect.top)
-        )
+            rect.bottom.wrapping_sub(rect.top),
+        ),
+        node,
     );
     Ok(found)
 }
@@ -638,7 +653,7 @@ fn read_viewport(
     let shown = Shown::new(page, &boxes, scrolls, screen);
     let found = shown.read(container);
     let alone = view_alone(rt, alloc, page, scrolls, screen, document)?;
-    assert_eq!(rt; alone, found);
+    same(rt, &alone, &found, document.0);
     Ok(found)
 }
 
@@ -687,7 +702,7 @@ fn take_look(
     match look {
         Look::Scroll(target, down, wanted) => {
             let outcome = scroll(rt, alloc, page, scrolls, *is_narrow, target, down)?;
-            assert_eq!(rt; outcome, wanted, "{down}");
+            same(rt, &outcome, &wanted, down);
         }
         Look::Narrow => *is_narrow = true,
         Look::Set(node, property, value) => set(rt, page, node, property, value),
@@ -696,12 +711,12 @@ fn take_look(
         }
         Look::Read(node, edges, down) => {
             let found = read_twice(rt, alloc, page, scrolls, *is_narrow, node)?;
-            assert_eq!(rt; found, reading(edges, down), "{node}");
+            same(rt, &found, &reading(edges, down), node);
         }
         Look::Viewport(number, (width, height), down) => {
             let document = DocumentId(number);
             let found = read_viewport(rt, alloc, page, scrolls, *is_narrow, document)?;
-            assert_eq!(rt; found, reading((0, 0, width, height), down), "{number}");
+            same(rt, &found, &reading((0, 0, width, height), down), number);
         }
     }
     Ok(())
@@ -752,9 +767,9 @@ fn see_frame(rt: &impl Abort, shown: &Shown<'_>, frame: Frame) {
     let (number, edges, (left, top)) = frame;
     let node = NodeId(number);
     let padding = shown.padding_rect(node);
-    assert_eq!(rt; padding, reading(edges, 0).rect, "{number}");
+    same(rt, &padding, &reading(edges, 0).rect, number);
     let corner = shown.content_origin(node);
-    assert_eq!(rt; corner, Point { left, top }, "{number}");
+    same(rt, &corner, &Point { left, top }, number);
     assert!(rt; !is_scroller(shown.page(), node), "{number}");
 }
 
@@ -785,7 +800,7 @@ fn see_frames(
 ) -> Result<(), Fail> {
     assert!(rt; is_scroller(page, NodeId(5)));
     let outcome = scroll(rt, alloc, page, scrolls, false, OUTER, DOWN)?;
-    assert_eq!(rt; outcome, Outcome::Moved);
+    same(rt, &outcome, &Outcome::Moved, "a scroll");
     let screen = screen_of(false);
     let boxes = all_boxes(rt, alloc, page, screen)?;
     see_frames_over(rt, page, &boxes, scrolls, screen);
@@ -824,9 +839,9 @@ fn see_pixels(
     let boxes = all_boxes(rt, alloc, page, screen)?;
     let shown = Shown::new(page, &boxes, scrolls, screen);
     let found = shown.size_of(NodeId(0), BoxKind::Device);
-    assert_eq!(rt; found, Size { width, height }, "{ratio}");
+    same(rt, &found, &Size { width, height }, ratio);
     let content = shown.size_of(NodeId(0), BoxKind::Content);
-    assert_eq!(rt; (content.width, content.height), (672, 192), "{ratio}");
+    same(rt, &(content.width, content.height), &(672, 192), ratio);
     Ok(())
 }
 

@@ -2,6 +2,7 @@
 //! `page_tree`, which tells `page_documents` where a frame leaves the tree of a document, and where it enters one.
 
 use crate::common::{Edit, Life, framed_page, live_all};
+use crate::same::same;
 use element_tree::{DocumentId, NodeId};
 use page_documents::Documents;
 use page_tree::PageTree;
@@ -62,9 +63,12 @@ const BACK: [Life; 1] = [(Edit::Append(0, 5), "Ok", "AADD 01 000210 043-")];
 
 fn see_path(rt: &impl Abort, page: &PageTree) {
     assert!(rt; page.document_count() == 4);
-    assert_eq!(rt;
-        page.path(DocumentId(3)).as_slice(),
-        [DocumentId(0), DocumentId(1), DocumentId(2), DocumentId(3)].as_slice()
+    let path = [DocumentId(0), DocumentId(1), DocumentId(2), DocumentId(3)];
+    same(
+        rt,
+        &page.path(DocumentId(3)).as_slice(),
+        &path.as_slice(),
+        "a path",
     );
 }
 
@@ -77,11 +81,21 @@ fn a_subtree_is_adopted_without_the_documents_in_its_frames(rt: HostRuntime) -> 
 
 fn see_room(rt: &impl Abort, documents: &mut Documents) {
     assert!(rt; !documents.is_full());
-    assert_eq!(rt; documents.make(NodeId(7)), DocumentId(1));
+    same(
+        rt,
+        &documents.make(NodeId(7)),
+        &DocumentId(1),
+        "the second document",
+    );
     assert!(rt; !documents.is_full());
-    assert_eq!(rt; documents.make(NodeId(8)), DocumentId(2));
+    same(
+        rt,
+        &documents.make(NodeId(8)),
+        &DocumentId(2),
+        "the third document",
+    );
     assert!(rt; documents.is_full());
-    assert_eq!(rt; documents.count(), 3);
+    same(rt, &documents.count(), &3, "how many there are");
 }
 
 #[test]

@@ -10,6 +10,7 @@ ghost use Rattle.page_boxes.specs.Fresh.{IsFresh};
 ghost use Rattle.page_boxes.specs.Pages.{seen_screen, IsScreen};
 
 use crate::common::{SCREEN, all_boxes, make_elements, put, remove, set, watch};
+use crate::same::same;
 use candidate_index::{Index, Scene, Standing, spot_of_root};
 use clip_chain::{Through, reaches};
 use element_tree::{Container, DocumentId, NodeId};
@@ -593,11 +594,21 @@ fn compare(
     edges: [Edges; 3],
 ) {
     let [root, target, cut] = edges;
-    assert_eq!(rt; (found.index, found.meets), counts);
-    assert_eq!(rt; (found.ratio.part, found.ratio.whole), areas);
-    assert_eq!(rt; edges_of(found.root), root);
-    assert_eq!(rt; edges_of(found.target), target);
-    assert_eq!(rt; edges_of(found.cut), cut);
+    same(
+        rt,
+        &(found.index, found.meets),
+        &counts,
+        "index, and whether they meet",
+    );
+    same(
+        rt,
+        &(found.ratio.part, found.ratio.whole),
+        &areas,
+        "part and whole",
+    );
+    same(rt, &edges_of(found.root), &root, "the root");
+    same(rt, &edges_of(found.target), &target, "the target");
+    same(rt, &edges_of(found.cut), &cut, "the cut");
 }
 
 fn take_step(

@@ -6,6 +6,7 @@ ghost use Rattle.page_tree.specs.Items.{IsKind, IsNatural};
 ghost use Rattle.page_boxes.specs.Pages.{IsScreen};
 
 use crate::common::{any_name, declaration};
+use crate::same::same;
 use block_layout::ItemKind;
 use element_tree::{Container, DocumentId, NodeId};
 use page_boxes::{Screen, size_of};
@@ -373,14 +374,18 @@ fn place(
 fn make_one(rt: &impl Abort, laid: &mut LaidTree, number: u32) -> Result<(), Fail> {
     let name = any_name(rt);
     if number == 3 {
-        assert_eq!(rt;
-            laid.make_frame(DocumentId(0), name)?,
-            (NodeId(number), DocumentId(1))
+        same(
+            rt,
+            &laid.make_frame(DocumentId(0), name)?,
+            &(NodeId(number), DocumentId(1)),
+            "a frame that is made",
         );
     } else {
-        assert_eq!(rt;
-            laid.make(DocumentId(0), name, kind_of(number))?,
-            NodeId(number)
+        same(
+            rt,
+            &laid.make(DocumentId(0), name, kind_of(number))?,
+            &NodeId(number),
+            "a node that is made",
         );
     }
     Ok(())
@@ -458,7 +463,7 @@ fn check(rt: &impl Abort, laid: &LaidTree, screen: Screen, node: u32, sides: (i6
         NodeId(node),
         BoxKind::Border,
     );
-    assert_eq!(rt; found, Size { width, height }, "{node}");
+    same(rt, &found, &Size { width, height }, node);
 }
 
 // What a reading of one element rests on is computed first, and then all.

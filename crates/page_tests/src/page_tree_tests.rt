@@ -3,6 +3,7 @@
 ghost use Rattle.std.specs.Prelude.{◌<◌};
 
 use crate::common::{Edit, Life, any_name, apply, framed_page, live_all, make_elements};
+use crate::same::same;
 use block_layout::ItemKind;
 use element_tree::{Container, DocumentId, NodeId};
 use page_documents::DocumentState;
@@ -80,7 +81,7 @@ const EDITS: [Row; 18] = [
 
 fn see_edit(rt: &impl Abort, alloc: Global, page: &mut PageTree, row: Row) -> Result<(), Fail> {
     let (edit, answered, children) = row;
-    assert_eq!(rt; apply(rt, page, edit), answered, "before {children}");
+    same(rt, &apply(rt, page, edit), &answered, children);
     let mut now = String::new(alloc);
     push_shape(&mut now, alloc, page)?;
     assert!(rt; now.as_bytes() == children.as_bytes(), "want {children}");
@@ -96,8 +97,8 @@ fn see_edits(rt: &impl Abort, alloc: Global, page: &mut PageTree) -> Result<(), 
 
 fn see_depth(rt: &impl Abort, page: &PageTree, node: u32, depth: u32, is_attached: bool) {
     assert!(rt; page.holds(NodeId(node)));
-    assert_eq!(rt; page.depth(NodeId(node)), depth);
-    assert_eq!(rt; page.is_attached(NodeId(node)), is_attached);
+    same(rt, &page.depth(NodeId(node)), &depth, node);
+    same(rt, &page.is_attached(NodeId(node)), &is_attached, node);
 }
 
 #[test]
@@ -121,20 +122,45 @@ const MOST_DOCUMENTS: u32 = 64;
 
 fn make_deep(rt: &impl Abort, page: &mut PageTree) {
     for number in 1..MOST_DEPTH {
-        assert_eq!(rt; apply(rt, page, Edit::Append(number - 1, number)), "Ok");
+        same(
+            rt,
+            &apply(rt, page, Edit::Append(number - 1, number)),
+            &"Ok",
+            number,
+        );
     }
     let inmost = NodeId(MOST_DEPTH - 1);
     assert!(rt; page.holds(inmost));
-    assert_eq!(rt; page.depth(inmost), MOST_DEPTH);
+    same(
+        rt,
+        &page.depth(inmost),
+        &MOST_DEPTH,
+        "the depth of the inmost",
+    );
 }
 
 // One more, below all of them and above all of them.
 fn see_no_deeper(rt: &impl Abort, page: &mut PageTree) {
     let edit = Edit::Append(MOST_DEPTH - 1, MOST_DEPTH);
-    assert_eq!(rt; apply(rt, page, edit), "depth");
-    assert_eq!(rt; apply(rt, page, Edit::Root(0, 0)), "Ok");
-    assert_eq!(rt; apply(rt, page, Edit::Append(MOST_DEPTH, 0)), "depth");
-    assert_eq!(rt; page.root(DocumentId(0)), Some(NodeId(0)));
+    same(rt, &apply(rt, page, edit), &"depth", "a node too deep");
+    same(
+        rt,
+        &apply(rt, page, Edit::Root(0, 0)),
+        &"Ok",
+        "a root element",
+    );
+    same(
+        rt,
+        &apply(rt, page, Edit::Append(MOST_DEPTH, 0)),
+        &"depth",
+        "a tree too deep",
+    );
+    same(
+        rt,
+        &page.root(DocumentId(0)),
+        &Some(NodeId(0)),
+        "the root element",
+    );
 }
 
 #[test]
@@ -158,14 +184,21 @@ const LARGE: Size = Size {
 // An image, which is element 0, and a block.
 fn make_image(rt: &impl Abort, page: &mut PageTree) -> Result<(), Fail> {
     let name = any_name(rt);
-    assert_eq!(rt; page.reserve()?, NodeId(0));
-    assert_eq!(rt;
-        page.make(DocumentId(0), name, ItemKind::Image(SMALL))?,
-        NodeId(0)
+    same(rt, &page.reserve()?, &NodeId(0), "the first number");
+    same(
+        rt,
+        &page.make(DocumentId(0), name, ItemKind::Image(SMALL))?,
+        &NodeId(0),
+        "an image",
     );
-    assert_eq!(rt; page.make(DocumentId(0), name, ItemKind::Block)?, NodeId(1));
+    same(
+        rt,
+        &page.make(DocumentId(0), name, ItemKind::Block)?,
+        &NodeId(1),
+        "a block",
+    );
     assert!(rt; page.holds(NodeId(0)));
-    assert_eq!(rt; page.name_of(NodeId(0)), name);
+    same(rt, &page.name_of(NodeId(0)), &name, "its name");
     Ok(())
 }
 
@@ -174,15 +207,35 @@ fn see_loading(rt: &impl Abort, page: &mut PageTree) {
     assert!(rt; matches!(page.load(NodeId(1), LARGE), Err(ThrowKind::TypeError)));
     assert!(rt; page.holds(NodeId(0)));
     assert!(rt; page.load(NodeId(0), LARGE).is_ok());
-    assert_eq!(rt; page.kind(NodeId(0)), ItemKind::Image(LARGE));
-    assert_eq!(rt; page.kind(NodeId(1)), ItemKind::Block);
+    same(
+        rt,
+        &page.kind(NodeId(0)),
+        &ItemKind::Image(LARGE),
+        "what the image is",
+    );
+    same(
+        rt,
+        &page.kind(NodeId(1)),
+        &ItemKind::Block,
+        "what the block is",
+    );
 }
 
 fn see_growth(rt: &impl Abort, page: &mut PageTree, by: i64, width: i64) {
     assert!(rt; page.holds(NodeId(0)));
     assert!(rt; page.grow(NodeId(0), Axis::Width, Px(by)).is_ok());
-    assert_eq!(rt; page.style(NodeId(0)).width, Length::Px(Px(width)));
-    assert_eq!(rt; page.style(NodeId(0)).height, Length::Auto);
+    same(
+        rt,
+        &page.style(NodeId(0)).width,
+        &Length::Px(Px(width)),
+        "the width",
+    );
+    same(
+        rt,
+        &page.style(NodeId(0)).height,
+        &Length::Auto,
+        "the height",
+    );
 }
 
 fn see_growing(rt: &impl Abort, page: &mut PageTree) {
@@ -232,12 +285,24 @@ fn see_frame(rt: &impl Abort, page: &mut PageTree, number: u32) -> Result<(), Fa
 {
     let document = DocumentId(number);
     assert!(rt; !page.is_full_of_documents());
-    assert_eq!(rt;
-        page.make_frame(DocumentId(0), any_name(rt))?,
-        (NodeId(number - 1), document)
+    same(
+        rt,
+        &page.make_frame(DocumentId(0), any_name(rt))?,
+        &(NodeId(number - 1), document),
+        "a frame",
     );
-    assert_eq!(rt; page.state(document), DocumentState::Fresh);
-    assert_eq!(rt; page.frame_of(document), Some(NodeId(number - 1)));
+    same(
+        rt,
+        &page.state(document),
+        &DocumentState::Fresh,
+        "its document",
+    );
+    same(
+        rt,
+        &page.frame_of(document),
+        &Some(NodeId(number - 1)),
+        "the frame of its document",
+    );
     Ok(())
 }
 
@@ -254,11 +319,18 @@ fn see_full_of_documents(rt: &impl Abort, page: &mut PageTree) -> Result<(), Fai
     let refused = page.make_frame(DocumentId(0), name);
     assert!(rt; matches!(refused, Err(MakeFault::Limit(LimitKind::Documents))));
     // a frame for each document but `top` comes before
-    assert_eq!(rt;
-        page.make(DocumentId(0), name, ItemKind::Block)?,
-        NodeId(MOST_DOCUMENTS - 1)
+    same(
+        rt,
+        &page.make(DocumentId(0), name, ItemKind::Block)?,
+        &NodeId(MOST_DOCUMENTS - 1),
+        "a block",
     );
-    assert_eq!(rt; page.document_count(), MOST_DOCUMENTS);
+    same(
+        rt,
+        &page.document_count(),
+        &MOST_DOCUMENTS,
+        "how many documents",
+    );
     Ok(())
 }
 
@@ -283,9 +355,12 @@ const ENDING: [Life; 9] = [
 
 fn see_path(rt: &impl Abort, page: &PageTree) {
     assert!(rt; page.document_count() == 4);
-    assert_eq!(rt;
-        page.path(DocumentId(3)).as_slice(),
-        [DocumentId(0), DocumentId(2), DocumentId(3)].as_slice()
+    let path = [DocumentId(0), DocumentId(2), DocumentId(3)];
+    same(
+        rt,
+        &page.path(DocumentId(3)).as_slice(),
+        &path.as_slice(),
+        "a path",
     );
 }
 
@@ -334,7 +409,12 @@ fn a_frame_may_come_to_stand_in_its_own_document(rt: HostRuntime) -> Result<(), 
     let mut page = framed_page(&rt, rt.alloc())?;
     live_all(&rt, rt.alloc(), &mut page, &TURNED)?;
     assert!(&rt; page.holds(NodeId(5)));
-    assert_eq!(&rt; page.tree_document(NodeId(5)), None);
+    same(
+        &rt,
+        &page.tree_document(NodeId(5)),
+        &None,
+        "the document of node 5",
+    );
     Ok(())
 }
 
@@ -353,12 +433,24 @@ const ORDERED: [Life; 10] = [
 
 fn see_containers(rt: &impl Abort, page: &PageTree) {
     assert!(rt; page.holds(NodeId(5)));
-    assert_eq!(rt; page.tree_document(NodeId(5)), Some(DocumentId(2)));
+    same(
+        rt,
+        &page.tree_document(NodeId(5)),
+        &Some(DocumentId(2)),
+        "the document of node 5",
+    );
     let parent = Container::Element(NodeId(4));
-    assert_eq!(rt; page.container_of(NodeId(5)), Some(parent));
-    assert_eq!(rt;
-        page.container_of(NodeId(4)),
-        Some(Container::Document(DocumentId(2)))
+    same(
+        rt,
+        &page.container_of(NodeId(5)),
+        &Some(parent),
+        "the container of node 5",
+    );
+    same(
+        rt,
+        &page.container_of(NodeId(4)),
+        &Some(Container::Document(DocumentId(2))),
+        "the container of node 4",
     );
 }
 

@@ -1,11 +1,11 @@
 -- A recorded trace judged beside the trace of its script.
 use Rattle.std.proofs.Common.{◌≡◌, ◌≤◌, ◌<◌, ◌∙◌, ◌+◌, ap, sym, subst, arith, tests, ℕ, List, [], ◌++◌, length, take, Option}
 use Rattle.std.proofs.lemmas.List.{drop_all}
-use Rattle.std.specs.Prelude.{Some, None, IfSome, Result, cond, count_by, false, true, nat_lt, ◌==◌}
+use Rattle.std.specs.Prelude.{Some, None, Err, IfSome, Result, cond, count_by, false, true, nat_lt, ◌==◌}
 use Rattle.std.specs.Io.KnownBytes.{Appends}
 use Rattle.text_io.specs.Streams.{PassesLimit}
 use Rattle.text_io.specs.declared.kinds.LimitKind.TheVariants as limits
-use Rattle.script_model.specs.Reading.{LimitAt, last_line, reading}
+use Rattle.script_model.specs.Reading.{LimitAt, Refusal, last_line, reading}
 use Rattle.page_model.specs.Outcome.{outcome_read, outcome, trace, bytes_of}
 use Rattle.trace_runs.specs.declared.faults.RunFault.{RunFault}
 use Rattle.trace_runs.specs.Writes.{Wrote}
@@ -24,7 +24,8 @@ use Rattle.run_replies.specs.declared.status.Status.{Status}
 use Rattle.run_replies.specs.declared.status.Status.TheVariants.{Done, Syntax, Limit, NoMemory, ReadFault, WriteFault, Usage, Differs}
 use Rattle.run_replies.proofs.Endings.{tells_end}
 use Rattle.run_replies.proofs.Summaries.{IsWhole, wrote_tells}
-use Rattle.run_replies.proofs.Taking.{first_bytes_read, taken}
+use Rattle.run_replies.proofs.Taking.{taken}
+use Rattle.script_source.proofs.FirstBytes.{first_bytes_read}
 use Rattle.replay_run.proofs.Wordless.{read_text}
 
 never : {A : Type 0} → false ≡ true → A
@@ -118,6 +119,12 @@ source_judged status source script recorded before after f g fits first behind t
     (ap (λ t. judgement_reply (judgement t recorded)) (ap trace first ∙ first_bytes_told (script_of source))
     ∙ ap (λ t. judgement_reply (judgement (trace (script_of source)) t)) behind ∙ judged_within source fits)
     told
+
+-- a script that is refused is refused by its first bytes
+pub judged_refused : {S : Type 0} (old new : S) (left : Option (List ℕ)) (script recorded : List ℕ) → IfSome left (λ source. (script ≡ take 16777217 (script_of source)) × (recorded ≡ trace_of source))
+    → ((refusal : Refusal) → reading script ≡ Err refusal → new ≡ old) → IfSome left (λ source. (refusal : Refusal) → reading (script_of source) ≡ Err refusal → new ≡ old)
+judged_refused old new None script recorded parts same = tt
+judged_refused old new (Some source) script recorded parts same = λ refusal is. same refusal (ap reading parts.0 ∙ first_bytes_read (script_of source) ∙ is)
 
 -- the source that was read
 pub ends_whole : (status : Status) (left rest : Option (List ℕ)) (script recorded : List ℕ) (before after : Option (List ℕ)) (f g : ℕ)

@@ -1,3 +1,4 @@
 mod Wordless
 mod Judged
 mod Unread
+mod Reader

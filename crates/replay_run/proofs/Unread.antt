@@ -1,21 +1,22 @@
--- A source that was read, up to what is looked at, and one that can't be read.
+-- A source that was read, up to what is looked at.
 use Rattle.std.proofs.Common.{◌≡◌, ◌∙◌, ap, refl, subst, sym, ℕ, List, Option}
-use Rattle.std.specs.Prelude.{Some, None, IfSome}
-use Rattle.text_io.specs.Streams.{TakesAtMost}
-use Rattle.script_model.specs.Reading.{Reading, reading}
+use Rattle.std.specs.Prelude.{Some, None, Err, IfSome}
+use Rattle.script_model.specs.Reading.{Reading, Refusal, reading}
 use Rattle.page_model.specs.Outcome.{outcome_read}
 use Rattle.page_model.specs.World.{World}
 use Rattle.run_replies.specs.Answers.{Ends, IsTaken, Tells}
-use Rattle.script_source.specs.Sources.{IsUnread, ReadTo}
+use Rattle.script_source.specs.Sources.{ReadTo}
 use Rattle.script_replay.specs.ScriptReplies.{read_reply}
 use Rattle.run_replies.specs.Words.{looked_at}
 use Rattle.run_replies.specs.declared.words.Job.{Job}
 use Rattle.run_replies.specs.declared.words.Words.{Words}
-use Rattle.run_replies.specs.declared.words.Words.TheVariants.{Generated}
+use Rattle.run_replies.specs.declared.words.Words.TheVariants.{Script, Generated, Judge, Pages}
+use Rattle.trace_judge.specs.Recordings.{script_of}
+use Rattle.replay_run.specs.Replies.{IsRefused}
 use Rattle.run_replies.specs.declared.status.Status.{Status}
-use Rattle.run_replies.specs.declared.status.Status.TheVariants.{NoMemory, ReadFault}
 use Rattle.run_replies.proofs.Endings.{tells_end}
-use Rattle.run_replies.proofs.Taking.{failed_taken, first_bytes_read, taken}
+use Rattle.run_replies.proofs.Taking.{taken}
+use Rattle.script_source.proofs.FirstBytes.{first_bytes_read}
 
 -- by the first bytes
 
@@ -36,17 +37,10 @@ reads_world world None left rest bytes read is = tt
 reads_world world (Some it) None rest bytes read is = tt
 reads_world world (Some it) (Some text) rest bytes read is = is ∙ ap (λ (it : Reading). (outcome_read it).world) (ap reading read.0 ∙ first_bytes_read text)
 
--- where it can't be read
-
-pub unread_unfailed : (status : Status) (f g : ℕ) → IsUnread status f g → (status ≡ ReadFault → ⊥) → g ≡ f
-unread_unfailed ReadFault f g cause other = absurd (other refl)
-unread_unfailed NoMemory f g cause other = cause
-unread_unfailed status f g cause other = absurd cause
-
-pub unread_taken : (status : Status) (f g : ℕ) (left rest : Option (List ℕ)) → IsUnread status f g → TakesAtMost left rest 16777217 → IfSome left (λ text. IsTaken status 16777217 text rest)
-unread_taken ReadFault f g left rest cause took = failed_taken 16777217 left rest took
-unread_taken NoMemory f g left rest cause took = failed_taken 16777217 left rest took
-unread_taken status f g left rest cause took = absurd cause
+pub reads_refused : {S : Type 0} (old new : S) (left rest : Option (List ℕ)) (bytes : List ℕ) → ReadTo 16777217 left rest bytes → ((refusal : Refusal) → reading bytes ≡ Err refusal → new ≡ old)
+    → IfSome left (λ text. (refusal : Refusal) → reading text ≡ Err refusal → new ≡ old)
+reads_refused old new None rest bytes read same = tt
+reads_refused old new (Some text) rest bytes read same = λ refusal is. same refusal (ap reading read.0 ∙ first_bytes_read text ∙ is)
 
 -- where none is asked for
 
@@ -58,3 +52,27 @@ pub generated_left : (words : Option Words) (job : Job) (number : ℕ) → words
     → IfSome words (λ asks. IfSome left (λ text. IsTaken status (looked_at asks) text left))
 generated_left words job number are status left =
     subst (λ (it : Option Words). IfSome it (λ asks. IfSome left (λ text. IsTaken status (looked_at asks) text left))) (sym are) (unlooked status left)
+
+-- a text that isn't a script, by what the words ask for
+
+pub asked_refused : {S : Type 0} (old new : S) (asked : Option Words) (asks : Words) (left : Option (List ℕ)) → asked ≡ Some asks → IfSome left (λ text. IsRefused asks text → new ≡ old)
+    → IfSome asked (λ it. IfSome left (λ text. IsRefused it text → new ≡ old))
+asked_refused old new asked asks left is same = subst (λ (words : Option Words). IfSome words (λ it. IfSome left (λ text. IsRefused it text → new ≡ old))) (sym is) same
+
+pub script_refused : {S : Type 0} (old new : S) (job : Job) (left : Option (List ℕ)) → IfSome left (λ text. (refusal : Refusal) → reading text ≡ Err refusal → new ≡ old)
+    → IfSome left (λ text. IsRefused (Script job) text → new ≡ old)
+script_refused old new job None same = tt
+script_refused old new job (Some text) same = λ refused. same refused.0 refused.1
+
+pub judge_refused : {S : Type 0} (old new : S) (left : Option (List ℕ)) → IfSome left (λ text. (refusal : Refusal) → reading (script_of text) ≡ Err refusal → new ≡ old)
+    → IfSome left (λ text. IsRefused Judge text → new ≡ old)
+judge_refused old new None same = tt
+judge_refused old new (Some text) same = λ refused. same refused.0 refused.1
+
+pub generated_refused : {S : Type 0} (old new : S) (job : Job) (number : ℕ) (left : Option (List ℕ)) → IfSome left (λ text. IsRefused (Generated job number) text → new ≡ old)
+generated_refused old new job number None = tt
+generated_refused old new job number (Some text) = λ never. absurd never
+
+pub pages_refused : {S : Type 0} (old new : S) (left : Option (List ℕ)) → IfSome left (λ text. IsRefused Pages text → new ≡ old)
+pages_refused old new None = tt
+pages_refused old new (Some text) = λ never. absurd never

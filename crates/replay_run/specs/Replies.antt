@@ -1,10 +1,10 @@
 -- The reply to the words of a command line: the text that is written, and the status after that. It is a function of the words
 -- and of the source's bytes only. All of this is this project's own choice.
-use Rattle.std.specs.Prelude.{ℕ, cond, nat_lt, List, length}
+use Rattle.std.specs.Prelude.{◌≡◌, ℕ, Bool, true, false, cond, nat_lt, List, length, Option, None, Some, Err}
 use Rattle.text_io.specs.declared.kinds.LimitKind.TheVariants as limits
 use Rattle.text_io.specs.Limits.{common_limit}
 use Rattle.script_model.specs.Generator.{generated}
-use Rattle.script_model.specs.Reading.{reading, LimitAt, last_line}
+use Rattle.script_model.specs.Reading.{reading, LimitAt, Refusal, last_line}
 use Rattle.script_model.specs.TraceText.{line_text}
 use Rattle.page_model.specs.Outcome.{trace}
 use Rattle.trace_judge.specs.declared.judgement.Judgement.{Judgement}
@@ -17,7 +17,7 @@ use Rattle.run_replies.specs.declared.status.Status.{Status}
 use Rattle.run_replies.specs.declared.status.Status.TheVariants.{Done, Differs}
 use Rattle.run_replies.specs.declared.words.Words.{Words}
 use Rattle.run_replies.specs.declared.words.Words.TheVariants.{Script, Generated, Judge, Pages}
-use Rattle.script_replay.specs.ScriptReplies.{read_reply}
+use Rattle.script_replay.specs.ScriptReplies.{read_reply, takes_steps}
 use Rattle.stream_replay.specs.StreamReplies.{pages_reply}
 
 abbrev pub judgement_status : Judgement → Status
@@ -49,3 +49,18 @@ reply (Script job) source = read_reply job (reading source)
 reply (Generated job number) source = read_reply job (reading (generated number))
 reply Judge source = judge_reply source
 reply Pages source = pages_reply source
+
+-- the words for which a script is run, of a page or of several
+abbrev pub steps_for : Option Words → Bool
+steps_for None = false
+steps_for (Some (Script job)) = takes_steps job
+steps_for (Some (Generated job number)) = takes_steps job
+steps_for (Some Judge) = true
+steps_for (Some Pages) = true
+
+-- the words refer to a script in the source, and it isn't one
+abbrev pub IsRefused : Words → List ℕ → Type 0
+IsRefused (Script job) source = (refusal : Refusal) × (reading source ≡ Err refusal)
+IsRefused (Generated job number) source = ⊥
+IsRefused Judge source = (refusal : Refusal) × (reading (script_of source) ≡ Err refusal)
+IsRefused Pages source = ⊥

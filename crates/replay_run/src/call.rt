@@ -1,22 +1,24 @@
 //! The top-level call.
 
-ghost use Rattle.std.specs.Prelude.{◌≡◌, ◌↔◌, ◌<◌, ◌&&◌, None, Some, is_some, map, string_bytes, IfSome};
+ghost use Rattle.std.specs.Prelude.{◌≡◌, ◌↔◌, ◌<◌, ◌&&◌, false, None, Some, Err, is_some, map, string_bytes, IfSome};
 ghost use Rattle.text_io.specs.Streams.{Rose};
 ghost use Rattle.script_model.specs.Generator.{generated};
-ghost use Rattle.script_model.specs.Reading.{reading};
+ghost use Rattle.script_model.specs.Reading.{Refusal, reading};
 ghost use Rattle.page_model.specs.Outcome.{outcome_read};
 ghost use Rattle.run_replies.specs.Answers.{Ends, IsTaken, Tells};
 ghost use Rattle.stream_replay.specs.StreamReplies.{IsolatesPages};
-ghost use Rattle.script_replay.specs.ScriptReplies.{read_reply};
-ghost use Rattle.replay_run.specs.Replies.{reply, script_text};
+ghost use Rattle.script_replay.specs.Ready.{IsReadyOfSome};
+ghost use Rattle.script_replay.specs.ScriptReplies.{read_reply, takes_steps};
+ghost use Rattle.replay_run.specs.Replies.{IsRefused, reply, script_text, steps_for};
 ghost use Rattle.run_replies.specs.Statuses.{is_done};
 ghost use Rattle.run_replies.specs.Words.{asked, has_page, is_run, looked_at, seen};
 
+use crate::generating::write_generated;
 use crate::judging::judge_source;
 use run_replies::{Job, Status, Words};
-use script_generator::make;
+use script_generator::{generated_text_is_a_script, make};
 use script_replay::{Report, perform, perform_on_text};
-use script_source::read_script;
+use script_source::{SourceFault, read_script};
 use std::alloc::Global;
 use std::sync::ledger::{Blank, Ledger};
 use step_count::Steps;
@@ -41,14 +43,38 @@ fn perform_on_source<S: Source, K: Sink, L: Ledger>(
     ensures unfailed_write { (result.status ≡ Status.WriteFault → ⊥) → K.faults sink.new ≡ K.faults sink.old }
     ensures page { is_some result.page ≡ (is_run job && is_done result.status) }
     ensures world { IfSome result.page (λ page. IfSome (S.left source.old) (λ text. page.world ≡ (outcome_read (reading text)).world)) }
+    ensures ready { IfSome result.page (λ page. IsReadyOfSome page.world) }
+    ensures steps { takes_steps job ≡ false → steps.new ≡ steps.old }
+    ensures refused_steps { IfSome (S.left source.old) (λ text. (refusal : Refusal) → reading text ≡ Err refusal → steps.new ≡ steps.old) }
 {
     match read_script(alloc, source) {
         Ok(text) => perform_on_text(alloc, job, text, sink, steps),
-        Err(status) => Report::without_page(status),
+        Err(SourceFault::ReadFault) => Report::without_page(Status::ReadFault),
+        Err(SourceFault::Memory) => Report::without_page(Status::NoMemory),
     }
 }
 
 // The same with the script generated from a number.
+fn perform_on_made<K: Sink, L: Ledger>(
+    alloc: Global,
+    job: Job,
+    number: u64,
+    sink: &mut K,
+    steps: &mut Steps<L>,
+) -> Report
+    ensures tells { Tells result.status (read_reply job (reading (generated number))) (K.taken sink.old) (K.taken sink.new) (K.faults sink.old) (K.faults sink.new) }
+    ensures page { is_some result.page ≡ (is_run job && is_done result.status) }
+    ensures world { IfSome result.page (λ page. page.world ≡ (outcome_read (reading (generated number))).world) }
+    ensures ready { IfSome result.page (λ page. IsReadyOfSome page.world) }
+    ensures steps { takes_steps job ≡ false → steps.new ≡ steps.old }
+{
+    match make(alloc, number) {
+        Ok(script) => perform(alloc, job, &script, sink, steps),
+        Err(_) => Report::without_page(Status::NoMemory),
+    }
+}
+
+// The same; a script that is to be printed is written as its text is generated, without parsing it.
 fn perform_on_number<K: Sink, L: Ledger>(
     alloc: Global,
     job: Job,
@@ -59,10 +85,19 @@ fn perform_on_number<K: Sink, L: Ledger>(
     ensures tells { Tells result.status (read_reply job (reading (generated number))) (K.taken sink.old) (K.taken sink.new) (K.faults sink.old) (K.faults sink.new) }
     ensures page { is_some result.page ≡ (is_run job && is_done result.status) }
     ensures world { IfSome result.page (λ page. page.world ≡ (outcome_read (reading (generated number))).world) }
+    ensures ready { IfSome result.page (λ page. IsReadyOfSome page.world) }
+    ensures steps { takes_steps job ≡ false → steps.new ≡ steps.old }
 {
-    match make(alloc, number) {
-        Ok(script) => perform(alloc, job, &script, sink, steps),
-        Err(_) => Report::without_page(Status::NoMemory),
+    match job {
+        Job::Print => {
+            // the law by which the text is what its script prints as
+            generated_text_is_a_script();
+            Report {
+                status: write_generated(alloc, number, sink),
+                page: None,
+            }
+        }
+        _ => perform_on_made(alloc, job, number, sink, steps),
     }
 }
 
@@ -74,6 +109,7 @@ fn perform_on_number<K: Sink, L: Ledger>(
 ///   the error (`quiet`), judged by the commands in its loop handlers, or the line of the first command that prevents it
 ///   (`unsteady`, `unquiet`);
 /// - `--summary`: replays it, and writes the number of trace lines of each kind;
+/// - `--print`: parses it, and writes its printed text, which reads as the same script;
 /// - `--inspect K`: runs it until its K-th tick ends, and writes each box of the page then with its visible part, or `ticks`
 ///   and the number of its ticks if it has fewer, or the line of a limit that is met before;
 /// - `--hit K X Y`: the same with the elements that the point hits, topmost first, or `miss`;
@@ -85,9 +121,9 @@ fn perform_on_number<K: Sink, L: Ledger>(
 /// - `--generate N`: writes the script generated from the number N, which is at most 1,000,000; reads nothing;
 /// - `--generate-run N`: replays the script generated from the number, and writes its summary; reads nothing.
 ///
-/// If the source isn't a script, the first six write only the line that says where the fault is; for a judgement that line is
-/// the script's trace. `steps` counts the boxes, clips and findings computed; no clause here bounds it, except that `Usage`
-/// leaves it unchanged.
+/// If the source isn't a script, the first seven write only the line that says where the fault is; for a judgement that line is the script's
+/// trace. `steps` counts the boxes, clips and findings computed; no clause here bounds it, except that `Usage`,
+/// `--check`, `--lint`, `--print`, `--generate` and a text that isn't a script leave it unchanged.
 ///
 /// - `Done`, `Syntax`, `Limit` and `Differs`: exactly as the reply to the words and the source's bytes says, and all of its
 ///   text was written.
@@ -95,7 +131,9 @@ fn perform_on_number<K: Sink, L: Ledger>(
 ///   many were consumed. After `NoMemory` and `ReadFault` no more than these were.
 /// - With `--pages` and one of these statuses, each page's lines in the output are the trace of its script alone, unless the
 ///   stream is rejected.
-/// - `ReadFault` and `WriteFault`: only if that fault count rose in this call; with any other status that count is unchanged.
+/// - `NoMemory` if an allocation fails: the first lines of the text were written, each of them whole.
+/// - `ReadFault` and `WriteFault`: only if that fault count rose in this call; with any other status that count is unchanged. After
+///   `WriteFault` a prefix of the text was written: whole lines, and at most a part of one.
 /// - `Usage`: exactly for any other words; nothing is read, written or allocated.
 pub fn run<S: Source, K: Sink, L: Ledger>(
     alloc: Global,
@@ -121,7 +159,11 @@ pub fn run<S: Source, K: Sink, L: Ledger>(
     ensures page { is_some result.page ≡ (has_page (asked (map string_bytes words.now)) && is_done result.status) }
     ensures world { IfSome result.page (λ page. IfSome (asked (map string_bytes words.now)) (λ asks. IfSome (seen asks (S.left source.old)) (λ text.
         page.world ≡ (outcome_read (reading (script_text asks text))).world))) }
-    ensures steps { asked (map string_bytes words.now) ≡ None → steps.new ≡ steps.old }
+    // A host can go on with it (`more_handlers_leave_a_page_ready` of `frame_update`).
+    ensures ready { IfSome result.page (λ page. IsReadyOfSome page.world) }
+    // No step is taken where no script is run.
+    ensures steps { steps_for (asked (map string_bytes words.now)) ≡ false → steps.new ≡ steps.old }
+    ensures refused_steps { IfSome (asked (map string_bytes words.now)) (λ asks. IfSome (S.left source.old) (λ text. IsRefused asks text → steps.new ≡ steps.old)) }
 {
     match Words::read(words) {
         None => Report::without_page(Status::Usage),
@@ -166,6 +208,8 @@ pub fn run_uncounted<S: Source, K: Sink, L: Ledger>(
     ensures page { is_some result.page ≡ (has_page (asked (map string_bytes words.now)) && is_done result.status) }
     ensures world { IfSome result.page (λ page. IfSome (asked (map string_bytes words.now)) (λ asks. IfSome (seen asks (S.left source.old)) (λ text.
         page.world ≡ (outcome_read (reading (script_text asks text))).world))) }
+    // A host can go on with it (`more_handlers_leave_a_page_ready` of `frame_update`).
+    ensures ready { IfSome result.page (λ page. IsReadyOfSome page.world) }
 {
     let mut steps = Steps::<L>::new(blank);
     run(alloc, words, source, sink, &mut steps)

@@ -1,21 +1,24 @@
 //! Judging recorded traces by the traces of their scripts.
 
-ghost use Rattle.std.specs.Prelude.{◌≡◌, IfOk, IfSome};
+ghost use Rattle.std.specs.Prelude.{◌≡◌, Err, IfOk, IfSome};
 ghost use Rattle.text_io.specs.Streams.{Rose};
+ghost use Rattle.script_model.specs.Reading.{Refusal, reading};
 ghost use Rattle.page_model.specs.Outcome.{trace};
 ghost use Rattle.trace_judge.specs.Judging.{judgement};
+ghost use Rattle.trace_judge.specs.Recordings.{script_of};
 ghost use Rattle.run_replies.specs.Answers.{Ends, IsTaken, Tells};
 ghost use Rattle.replay_run.specs.Replies.{judge_reply, judgement_reply, judgement_status};
 
+use recorded_source::{RecordedText, read_recorded};
 use run_replies::{Job, Status, meet_limit, status_of};
 use script_replay::perform_on_text;
-use script_source::{RecordedText, ScriptText, read_recorded};
+use script_source::ScriptText;
 use std::alloc::{AllocError, Global};
 use std::sync::ledger::Ledger;
 use step_count::Steps;
 use text_io::{LimitKind, Sink, Source, TextFault};
+use text_lines::GatherSink;
 use trace_judge::{Judgement, judge};
-use trace_summary::GatherSink;
 
 // Returns the trace of a script, collected in memory. Fails only if an allocation fails.
 fn trace_of<L: Ledger>(
@@ -23,7 +26,8 @@ fn trace_of<L: Ledger>(
     script: ScriptText,
     steps: &mut Steps<L>,
 ) -> Result<GatherSink, AllocError>
-    ensures { IfOk result (λ gathered. gathered.taken ≡ trace script) }
+    ensures trace { IfOk result (λ gathered. gathered.taken ≡ trace script) }
+    ensures refused_steps { (refusal : Refusal) → reading script ≡ Err refusal → steps.new ≡ steps.old }
 {
     let mut gathered = GatherSink::new(alloc);
     let report = perform_on_text(alloc, Job::Replay, script, &mut gathered, steps);
@@ -52,8 +56,9 @@ fn judge_trace<K: Sink, L: Ledger>(
     sink: &mut K,
     steps: &mut Steps<L>,
 ) -> Status
-    ensures { Tells result (judgement_reply (judgement (trace script) recorded.now))
+    ensures tells { Tells result (judgement_reply (judgement (trace script) recorded.now))
         (K.taken sink.old) (K.taken sink.new) (K.faults sink.old) (K.faults sink.new) }
+    ensures refused_steps { (refusal : Refusal) → reading script ≡ Err refusal → steps.new ≡ steps.old }
 {
     let Ok(expected) = trace_of(alloc, script, steps) else {
         return Status::NoMemory;
@@ -69,8 +74,9 @@ fn judge_recorded<K: Sink, L: Ledger>(
     sink: &mut K,
     steps: &mut Steps<L>,
 ) -> Status
-    ensures { Tells result (judgement_reply (judgement (trace recorded.script) recorded.trace))
+    ensures tells { Tells result (judgement_reply (judgement (trace recorded.script) recorded.trace))
         (K.taken sink.old) (K.taken sink.new) (K.faults sink.old) (K.faults sink.new) }
+    ensures refused_steps { (refusal : Refusal) → reading recorded.script ≡ Err refusal → steps.new ≡ steps.old }
 {
     let (script, trace) = recorded.into_parts();
     judge_trace(alloc, script, &trace, sink, steps)
@@ -91,6 +97,7 @@ pub fn judge_source<S: Source, K: Sink, L: Ledger>(
     ensures write_fault { result ≡ Status.WriteFault → Rose (K.faults sink.old) (K.faults sink.new) }
     ensures unfailed_read { (result ≡ Status.ReadFault → ⊥) → S.faults source.new ≡ S.faults source.old }
     ensures unfailed_write { (result ≡ Status.WriteFault → ⊥) → K.faults sink.new ≡ K.faults sink.old }
+    ensures refused_steps { IfSome (S.left source.old) (λ text. (refusal : Refusal) → reading (script_of text) ≡ Err refusal → steps.new ≡ steps.old) }
 {
     match read_recorded(alloc, source) {
         Ok(recorded) => judge_recorded(alloc, recorded, sink, steps),

@@ -12,9 +12,9 @@ use Rattle.page_model.specs.World.{World}
 use Rattle.trace_runs.specs.declared.faults.RunFault.{RunFault}
 use Rattle.trace_runs.specs.declared.faults.RunFault.TheVariants as fault
 use Rattle.trace_runs.specs.Runs as Run
-use Rattle.trace_runs.specs.Writes.{AppendsPart, FailsWithin, Told}
-use Rattle.trace_runs.proofs.Lines.{bytes_both}
-use Rattle.trace_runs.proofs.Writes.{both, part_behind, failure_behind}
+use Rattle.trace_runs.specs.Writes.{AppendsLines, FailsWithin, Told}
+use Rattle.trace_runs.proofs.Lines.{bytes_both, lines_end}
+use Rattle.trace_runs.proofs.Writes.{both, lines_behind, failure_behind}
 use Rattle.run_replies.specs.Answers.{Tells, Ends}
 use Rattle.run_replies.specs.Replies.{Reply, outcome_reply}
 use Rattle.run_replies.specs.Statuses.{status_after, status_at}
@@ -61,14 +61,14 @@ module _ (script : Script) (world : World) (opening : world ≡ opening_world (s
         (ap (λ (flow : runs.Flow). status_at (ending_of flow)) met.flow_is, subst (λ (t : List ℕ). Appends before after t) whole (both before mid after (bytes_of met.lines) (bytes_of (LimitLine kind line most ∷ [])) met.written.written w.0.written), w.1 ∙ met.unfailed)
     limit-so (Err (fault.Limit other at number)) after g w = absurd w
     limit-so (Err fault.Memory) after g w =
-        (subst (λ (t : List ℕ). AppendsPart before after t) whole (part_behind before (bytes_of met.lines) met.written.written w.0), w.1 ∙ met.unfailed)
+        (subst (λ (t : List ℕ). AppendsLines before after t) whole (lines_behind before (bytes_of met.lines) (lines_end met.lines) met.written.written w.0), w.1 ∙ met.unfailed)
     limit-so (Err fault.WriteFault) after g w = subst (λ (t : List ℕ). FailsWithin before after f g t) whole (failure_behind before f (bytes_of met.lines) met.written.written met.unfailed w)
 
     pub limit_said : {A : Type 0} (r : Result A RunFault) (after : Option (List ℕ)) (g : ℕ) → Told r mid after fm g (LimitLine kind line most ∷ []) → Tells (status_after r Limit) (outcome_reply (outcome_read (Ok script))) before after f g
     limit_said r after g w = as_run (status_after r Limit) after g (limit-so r after g w)
 
   -- cut off for want of memory or by a write
-  pub memory_answers : {after : Option (List ℕ)} (g : ℕ) → AppendsPart before after (bytes_of said.lines) × (g ≡ f) → Tells NoMemory (outcome_reply (outcome_read (Ok script))) before after f g
+  pub memory_answers : {after : Option (List ℕ)} (g : ℕ) → AppendsLines before after (bytes_of said.lines) × (g ≡ f) → Tells NoMemory (outcome_reply (outcome_read (Ok script))) before after f g
   memory_answers {after = after} g w = as_run NoMemory after g w
 
   pub failed_answers : {after : Option (List ℕ)} {g : ℕ} → FailsWithin before after f g (bytes_of said.lines) → Tells WriteFault (outcome_reply (outcome_read (Ok script))) before after f g

@@ -1,7 +1,7 @@
 -- What is written of a text that is refused, and of a run's summary.
 use Rattle.std.proofs.Common.{◌≡◌, ◌∙◌, refl, ap, sym, subst, ℕ, List, [], ◌∷◌, ◌++◌, Option, Some}
 use Rattle.std.proofs.lemmas.List.Elements.{All-append}
-use Rattle.std.specs.Prelude.{Result, Ok, Err, false}
+use Rattle.std.specs.Prelude.{Result, Ok, Err, IsOk, IfOk, OnErr, false}
 use Rattle.text_io.specs.declared.kinds.LimitKind.{LimitKind}
 use Rattle.script_model.specs.Reading.{Refusal, SyntaxAt, LimitAt, refusal_line}
 use Rattle.script_model.specs.Summary.{summary_text}
@@ -75,6 +75,18 @@ gathered_more before after lines more it said = record {
 with_line : (before after : List ℕ) (line : TraceLine) → Says (Some before) (Some after) (line ∷ []) → after ≡ before ++ line_text line
 with_line before after line said = said.written ∙ ap (λ t. before ++ t) (sym (bytes_one line))
 
+-- the text of a trace is read, and its summary is that of some lines of this text
+pub is_read : {E : Type 0} (result : Result Summary E) (text : List ℕ) → OnErr result ((lines : List TraceLine) → IsTrace text lines → ⊥)
+    → ((lines : List TraceLine) × IsTrace text lines) → IsOk result
+is_read (Ok summary) text none some = refl
+is_read (Err refusal) text none some = absurd (none some.0 some.1)
+
+pub summary_found : {E : Type 0} (result : Result Summary E) (text : List ℕ) (summary : Summary) → result ≡ Ok summary
+    → IfOk result (λ it. (lines : List TraceLine) × IsTrace text lines × (it ≡ summary_of lines))
+    → (lines : List TraceLine) × IsTrace text lines × (summary ≡ summary_of lines)
+summary_found {E = E} result text summary is found =
+    subst (λ (it : Result Summary E). IfOk it (λ it. (lines : List TraceLine) × IsTrace text lines × (it ≡ summary_of lines))) is found
+
 -- a summary that was written of the lines that were read
 pub summary_wrote : {A : Type 0} (r : Result A RunFault) (before after : Option (List ℕ)) (f g : ℕ) (summary : Summary) (found lines : List TraceLine) → summary ≡ summary_of found → found ≡ lines
     → rows_text (summary_of lines) ≡ summary_text lines → Wrote r before after f g (rows_text summary) → Wrote r before after f g (summary_text lines)
@@ -100,13 +112,6 @@ whole_tells r limit gathered taken status before after f g lines said is wrote s
     subst (λ (s : Status). Tells s (record { text = summary_text lines; status = Limit }) before after f g) (sym status_is)
     (wrote_tells r Limit (summary_text lines) before after f g tt
     (wrote lines (subst (λ (text : List ℕ). IsTrace text lines) (sym (with_line gathered taken limit said)) is)))
-
-pub whole_other : {A S : Type 0} (r : Result A RunFault) (limit : TraceLine) (gathered taken : List ℕ) (status : Status) (old new : S)
-    → Says (Some gathered) (Some taken) (limit ∷ []) → ((lines : List TraceLine) → IsTrace (gathered ++ line_text limit) lines → ⊥)
-    → (((lines : List TraceLine) → IsTrace taken lines → ⊥) → (r ≡ Err fault.Memory) × (new ≡ old)) → status ≡ status_after r Limit → (status ≡ NoMemory) × (new ≡ old)
-whole_other r limit gathered taken status old new said none other status_is =
-    let found = other (λ lines is. none lines (subst (λ (text : List ℕ). IsTrace text lines) (with_line gathered taken limit said) is)) in
-    (status_is ∙ ap (λ it. status_after it Limit) found.0, found.1)
 
 pub limit_not_done : {A : Type 0} (r : Result A RunFault) → is_done (status_after r Limit) ≡ false
 limit_not_done (Ok done) = refl

@@ -10,9 +10,9 @@ use Rattle.script_model.specs.Scripts.{command_count}
 use Rattle.page_model.specs.Outcome.{check_read}
 use Rattle.trace_runs.specs.Writes.{AppendsPart}
 use Rattle.trace_runs.proofs.Writes.{both, part_begins, part_behind, part_taken}
-use Rattle.trace_summary.specs.Lines.{first_line, behind_line}
+use Rattle.text_lines.specs.Lines.{first_line, behind_line}
 use Rattle.trace_summary.proofs.Rows.{Writing}
-use Rattle.trace_summary.proofs.Splits.{line_splits}
+use Rattle.text_lines.proofs.Splits.{line_splits}
 use Rattle.loop_lint.specs.LoopHandlers.{loop_handler_lines}
 use Rattle.loop_lint.specs.Verdicts.{moves, disturbs}
 use Rattle.run_replies.specs.Answers.{Tells}

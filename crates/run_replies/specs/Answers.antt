@@ -2,15 +2,15 @@
 use Rattle.std.specs.Prelude.{◌≡◌, ℕ, List, [], drop, Option, Some}
 use Rattle.std.specs.Io.KnownBytes.{Appends}
 use Rattle.text_io.specs.Streams.{TakesAtMost}
-use Rattle.trace_runs.specs.Writes.{AppendsPart, FailsWithin}
+use Rattle.trace_runs.specs.Writes.{AppendsLines, FailsWithin}
 use Rattle.run_replies.specs.Replies.{Reply}
 use Rattle.run_replies.specs.declared.status.Status.{Status}
 use Rattle.run_replies.specs.declared.status.Status.TheVariants.{NoMemory, ReadFault, WriteFault, Usage}
 
--- what each status says of a reply, and of what was written of it. A read that failed comes before this, and `Usage` doesn't come
--- up
+-- what each status says of a reply, and of what was written of it: for want of memory its first lines, each whole; where a write failed, a
+-- first part. A read that failed comes before this, and `Usage` doesn't come up
 abbrev pub Tells : Status → Reply → Option (List ℕ) → Option (List ℕ) → ℕ → ℕ → Type 0
-Tells NoMemory reply before after faults faults_after = AppendsPart before after reply.text × (faults_after ≡ faults)
+Tells NoMemory reply before after faults faults_after = AppendsLines before after reply.text × (faults_after ≡ faults)
 Tells WriteFault reply before after faults faults_after = FailsWithin before after faults faults_after reply.text
 Tells ReadFault reply before after faults faults_after = ⊥
 Tells Usage reply before after faults faults_after = ⊥

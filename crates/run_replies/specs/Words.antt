@@ -37,8 +37,9 @@ asked (word ∷ []) =
     cond (bytes_eq word (codes "--check")) (Some (Script Check))
     (cond (bytes_eq word (codes "--lint")) (Some (Script Lint))
     (cond (bytes_eq word (codes "--summary")) (Some (Script Summary))
+    (cond (bytes_eq word (codes "--print")) (Some (Script Print))
     (cond (bytes_eq word (codes "--judge")) (Some Judge)
-    (cond (bytes_eq word (codes "--pages")) (Some Pages) None))))
+    (cond (bytes_eq word (codes "--pages")) (Some Pages) None)))))
 asked (word ∷ number ∷ []) =
     cond (bytes_eq word (codes "--generate")) (option_map (Generated Print) (number_of number))
     (cond (bytes_eq word (codes "--generate-run")) (option_map (Generated Summary) (number_of number))

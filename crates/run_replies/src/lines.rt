@@ -6,9 +6,9 @@ ghost use Rattle.run_replies.specs.Replies.{done_with};
 
 use crate::status::Status;
 use text_io::{Sink, write_all};
-use trace_summary::split_line;
+use text_lines::split_line;
 
-/// Writes a text, passing each of its lines to the sink separately.
+/// Writes a text line by line; no clause says how it is divided into writes.
 ///
 /// Returns `WriteFault` only where the sink's fault count rose in this call; a prefix of the text was written then. Otherwise `Done`.
 pub fn write_lines<K: Sink>(text: &[u8], sink: &mut K) -> Status

@@ -1,7 +1,6 @@
 //! The replies for limits, and for texts that aren't scripts.
 
 ghost use Rattle.std.specs.Prelude.{◌≡◌, [], ◌∷◌, false};
-ghost use Rattle.text_io.specs.Limits.{IsCommon};
 ghost use Rattle.script_model.specs.TraceLines.{LimitLine};
 ghost use Rattle.script_model.specs.Reading.{LimitAt, SyntaxAt};
 ghost use Rattle.trace_runs.specs.Writes.{Told};
@@ -11,7 +10,7 @@ ghost use Rattle.run_replies.specs.Statuses.{is_done};
 
 use crate::status::{Status, status_of};
 use std::alloc::Global;
-use text_io::{LimitKind, Sink};
+use text_io::{LimitKind, Sink, Version};
 use trace_runs::{RunFault, write_one};
 use trace_text::TraceLine;
 
@@ -35,17 +34,18 @@ pub fn write_limit<K: Sink>(
     write_one(alloc, &line, sink)
 }
 
-/// Writes the trace line for a limit that was met while a source was read, which must be one that is the same in every version.
+/// Writes the trace line for a limit that was met while a source was read, with its value in version 1; before a version is known only
+/// limits are met that are the same in every version.
 ///
 /// Returns `Limit`; or `NoMemory` if an allocation fails, with nothing written; or `WriteFault`, only where the sink's fault count rose in
 /// this call, with a prefix of the line written.
 pub fn meet_limit<K: Sink>(alloc: Global, kind: LimitKind, line: u32, sink: &mut K) -> Status
-    requires { IsCommon kind }
     ensures tells { Tells result (refused_with (LimitAt kind line)) (K.taken sink.old) (K.taken sink.new) (K.faults sink.old) (K.faults sink.new) }
     ensures done { is_done result ≡ false }
     ensures memory { result ≡ Status.NoMemory → sink.new ≡ sink.old }
 {
-    let wrote = write_limit(alloc, kind, line, kind.common(), sink);
+    let number = kind.number(Version::First);
+    let wrote = write_limit(alloc, kind, line, number, sink);
     status_of(wrote, Status::Limit)
 }
 

@@ -1,6 +1,6 @@
 //! The reply with the summary of a trace that was collected in memory.
 
-ghost use Rattle.std.specs.Prelude.{◌≡◌, ◌++◌, List, [], ◌∷◌, Err, false};
+ghost use Rattle.std.specs.Prelude.{◌≡◌, ◌++◌, List, [], ◌∷◌, false};
 ghost use Rattle.script_model.specs.Summary.{summary_text};
 ghost use Rattle.script_model.specs.TraceLines.{LimitLine, TraceLine as LineModel};
 ghost use Rattle.script_model.specs.TraceText.{line_text};
@@ -12,34 +12,33 @@ ghost use Rattle.run_replies.specs.Statuses.{is_done};
 use crate::status::{Status, status_of};
 use std::alloc::Global;
 use text_io::{LimitKind, Sink};
+use text_lines::GatherSink;
 use trace_runs::{RunFault, write_one};
-use trace_summary::{GatherSink, Summary, a_text_has_one_trace, rows_are_the_summary};
+use trace_summary::{Summary, a_text_has_one_trace, rows_are_the_summary};
 use trace_text::TraceLine;
 
 /// Writes how many lines of each kind a trace has, given its text: the lines are read back and counted.
 ///
 /// # Errors
 /// `WriteFault` only where the sink's fault count rose in this call, or `Memory` if an allocation fails; a prefix of the summary was
-/// written then. For a text that isn't that of a trace `Memory`, with nothing written. No other fault.
+/// written then. No other fault.
 pub fn write_summary<K: Sink>(alloc: Global, trace: &[u8], sink: &mut K) -> Result<(), RunFault>
-    ensures wrote { (lines : List LineModel) → IsTrace trace.now lines →
+    requires { (lines : List LineModel) × IsTrace trace.now lines }
+    ensures { (lines : List LineModel) → IsTrace trace.now lines →
         Wrote result (K.taken sink.old) (K.taken sink.new) (K.faults sink.old) (K.faults sink.new) (summary_text lines) }
-    ensures other { ((lines : List LineModel) → IsTrace trace.now lines → ⊥) → (result ≡ Err RunFault.Memory) × (sink.new ≡ sink.old) }
 {
     // the laws by which the lines read back are those of the trace
     a_text_has_one_trace();
     rows_are_the_summary();
-    match Summary::of(trace) {
-        Ok(summary) => summary.write_to(alloc, sink),
-        // The text of a trace consists of lines, so no caller comes here.
-        Err(_) => Err(RunFault::Memory),
-    }
+    // the text of a trace consists of lines
+    let summary = Summary::of(trace).unwrap();
+    summary.write_to(alloc, sink)
 }
 
 /// Like `write_summary`, for a trace that a limit ended: the line of the limit is appended to the trace and counted too.
 ///
 /// Returns `Limit`; or `NoMemory` if an allocation fails, or `WriteFault`, only where the sink's fault count rose in this call, with a prefix
-/// of the summary written. If the text with that line isn't that of a trace, `NoMemory`, with nothing written.
+/// of the summary written.
 pub fn summarize_to_limit<K: Sink>(
     alloc: Global,
     kind: LimitKind,
@@ -48,13 +47,12 @@ pub fn summarize_to_limit<K: Sink>(
     mut gathered: GatherSink,
     sink: &mut K,
 ) -> Status
+    requires { (lines : List LineModel) × IsTrace gathered.taken lines }
     ensures tells { (lines : List LineModel) → IsTrace gathered.taken lines →
         Tells result (record { text = summary_text (lines ++ LimitLine kind line number ∷ []); status = Status.Limit }) (K.taken sink.old) (K.taken sink.new) (K.faults sink.old) (K.faults sink.new) }
     // The same by the whole text, whatever was collected before.
     ensures whole { (lines : List LineModel) → IsTrace (gathered.taken ++ line_text (LimitLine kind line number)) lines →
         Tells result (record { text = summary_text lines; status = Status.Limit }) (K.taken sink.old) (K.taken sink.new) (K.faults sink.old) (K.faults sink.new) }
-    ensures other { ((lines : List LineModel) → IsTrace (gathered.taken ++ line_text (LimitLine kind line number)) lines → ⊥) →
-        (result ≡ Status.NoMemory) × (sink.new ≡ sink.old) }
     ensures done { is_done result ≡ false }
 {
     let line = TraceLine::Limit(kind, line, number);

@@ -79,10 +79,10 @@ fn point_of(left: &[u8], top: &[u8]) -> Option<Point>
 }
 
 impl Words {
-    /// Parses the words of a command line: no words to replay the script in the source; `--check`, `--lint` and `--summary` to check,
-    /// certify or summarize it; `--judge` to judge the trace after it; `--pages` to run the scripts of several pages; `--inspect K` and
-    /// `--hit K X Y` to write a view of the page at the end of tick number K; `--generate N` and `--generate-run N` to print or summarize
-    /// the script generated from a number. Returns `None` for any other list of words. Allocates nothing.
+    /// Parses the words of a command line: no words to replay the script in the source; `--check`, `--lint`, `--summary` and `--print` to
+    /// check, certify, summarize or print it; `--judge` to judge the trace after it; `--pages` to run the scripts of several pages;
+    /// `--inspect K` and `--hit K X Y` to write a view of the page at the end of tick number K; `--generate N` and `--generate-run N` to print
+    /// or summarize the script generated from a number. Returns `None` for any other list of words. Allocates nothing.
     #[tactic(auto, unfolding(crate::specs::Words::asked))]
     pub fn read(words: &[String]) -> Option<Words>
         ensures { result ≡ asked (map string_bytes words.now) }
@@ -109,6 +109,8 @@ impl Words {
             Some(Words::Script(Job::Lint))
         } else if word == "--summary" {
             Some(Words::Script(Job::Summary))
+        } else if word == "--print" {
+            Some(Words::Script(Job::Print))
         } else if word == "--judge" {
             Some(Words::Judge)
         } else if word == "--pages" {

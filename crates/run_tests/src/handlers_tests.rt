@@ -4,6 +4,7 @@ ghost use Rattle.std.specs.Prelude.{◌≡◌, ◌<◌};
 ghost use Rattle.script_syntax.specs.Allowed.{IsAllowed};
 
 use crate::common::{failing, script_of};
+use crate::same::{same, same_bytes};
 use element_tree::DocumentId;
 use event_tables::HandlerId;
 use handlers::{Entries, run_command, run_handler};
@@ -122,8 +123,8 @@ fn expect(
     let mut sink = MemorySink::new(alloc, ROOM, 64, failing(alloc, number)?)?;
     let script = script_of(alloc, text.as_bytes())?;
     let ran = run_alone(alloc, &script, document, &mut sink);
-    assert_eq!(rt; ran, ending, "{text}");
-    assert_eq!(rt; sink.taken(), told.as_bytes(), "{text}");
+    same(rt, &ran, &ending, text);
+    same_bytes(rt, sink.taken(), told.as_bytes(), text);
     Ok(())
 }
 

@@ -1,6 +1,7 @@
 //! Scripts with their verdicts, and the lines that are to blame.
 
 use crate::common::script_of;
+use crate::same::same;
 use loop_lint::{Law, Verdict, blame, lint};
 use std::alloc::Global;
 use std::process::Abort;

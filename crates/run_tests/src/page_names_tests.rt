@@ -1,5 +1,6 @@
 //! Names given to things, looked up and told.
 
+use crate::same::same;
 use element_tree::{Container, DocumentId, NodeId};
 use event_tables::EventTarget;
 use intersection_observer::WatcherId;
@@ -45,11 +46,31 @@ fn the_first_name_of_a_thing_is_told(rt: HostRuntime) -> Result<(), Fail> {
     assert!(rt; give(&mut names, first, Thing::QueryList(4))?);
     assert!(rt; give(&mut names, second, Thing::QueryList(4))?);
     assert!(rt; give(&mut names, other, Thing::Element(NodeId(4)))?);
-    assert_eq!(rt; names.name_of(Thing::QueryList(4)), Some(first));
-    assert_eq!(rt; names.name_of(Thing::Element(NodeId(4))), Some(other));
-    assert_eq!(rt; names.name_of(Thing::Element(NodeId(3))), None);
-    assert_eq!(rt; names.thing_of(second), Some(Thing::QueryList(4)));
-    assert_eq!(rt; names.query_list(second), Ok(4));
+    same(
+        &rt,
+        &names.name_of(Thing::QueryList(4)),
+        &Some(first),
+        "the name of a query list",
+    );
+    same(
+        &rt,
+        &names.name_of(Thing::Element(NodeId(4))),
+        &Some(other),
+        "the name of element 4",
+    );
+    same(
+        &rt,
+        &names.name_of(Thing::Element(NodeId(3))),
+        &None,
+        "no name",
+    );
+    same(
+        &rt,
+        &names.thing_of(second),
+        &Some(Thing::QueryList(4)),
+        "what the second is",
+    );
+    same(&rt, &names.query_list(second), &Ok(4), "its number");
     Ok(())
 }
 
@@ -65,26 +86,47 @@ fn operands_are_things_of_their_kinds(rt: HostRuntime) -> Result<(), Fail> {
     assert!(rt; give(&mut names, watch, Thing::ResizeObserver(ObserverId(0)))?);
     assert!(rt; give(&mut names, seen, Thing::IntersectionObserver(WatcherId(1)))?);
     let target = Some(NodeId(7));
-    assert_eq!(rt; names.document(top), Ok(DocumentId(0)));
-    assert_eq!(rt; names.observer(watch), Ok(ObserverId(0)));
-    assert_eq!(rt; names.watcher(seen), Ok(WatcherId(1)));
-    assert_eq!(rt; names.watcher(watch), Err(ThrowKind::TypeError));
-    assert_eq!(rt;
-        names.container(Operand::Named(top), target),
-        Ok(Container::Document(DocumentId(0)))
+    same(&rt, &names.document(top), &Ok(DocumentId(0)), "top");
+    same(&rt, &names.observer(watch), &Ok(ObserverId(0)), "watch");
+    same(&rt, &names.watcher(seen), &Ok(WatcherId(1)), "seen");
+    same(
+        &rt,
+        &names.watcher(watch),
+        &Err(ThrowKind::TypeError),
+        "watch as an intersection observer",
     );
-    assert_eq!(rt; names.element(Operand::Target, target), Ok(NodeId(7)));
-    assert_eq!(rt;
-        names.element(Operand::Target, None),
-        Err(ThrowKind::ReferenceError)
+    same(
+        &rt,
+        &names.container(Operand::Named(top), target),
+        &Ok(Container::Document(DocumentId(0))),
+        "top as a container",
+    );
+    same(
+        &rt,
+        &names.element(Operand::Target, target),
+        &Ok(NodeId(7)),
+        "the target",
+    );
+    same(
+        &rt,
+        &names.element(Operand::Target, None),
+        &Err(ThrowKind::ReferenceError),
+        "no target",
     );
     let window = Ok(EventTarget::Window(DocumentId(0)));
-    assert_eq!(rt; names.event_target(Aim::Window(top), None), window);
+    same(
+        &rt,
+        &names.event_target(Aim::Window(top), None),
+        &window,
+        "a window",
+    );
     let second = names.check_also_free(named(&rt, b"f"), named(&rt, b"f"));
-    assert_eq!(rt; second, Err(ThrowKind::TypeError));
-    assert_eq!(rt;
-        names.check_also_free(named(&rt, b"f"), named(&rt, b"g")),
-        Ok(())
+    same(&rt, &second, &Err(ThrowKind::TypeError), "a name twice");
+    same(
+        &rt,
+        &names.check_also_free(named(&rt, b"f"), named(&rt, b"g")),
+        &Ok(()),
+        "two new names",
     );
     Ok(())
 }

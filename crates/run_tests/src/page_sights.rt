@@ -1,6 +1,7 @@
 //! What is seen of a page as one of its script's ticks ends: its boxes, and what a point hits.
 
 use crate::replay_run_tests::{WHOLE, replayed};
+use crate::same::{same, same_bytes};
 use replay_run::Status;
 use std::alloc::Global;
 use std::process::Abort;
@@ -150,8 +151,8 @@ fn see(
         owned.push(String::from_str(alloc, word)?)?;
     }
     let it = replayed(alloc, &owned, text.as_bytes(), WHOLE)?;
-    assert_eq!(rt; it.status, status, "{told}");
-    assert_eq!(rt; it.sink.taken(), told.as_bytes(), "{told}");
+    same(rt, &it.status, &status, told);
+    same_bytes(rt, it.sink.taken(), told.as_bytes(), told);
     assert!(rt; !it.has_page, "{told}");
     Ok(())
 }

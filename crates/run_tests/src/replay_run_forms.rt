@@ -2,6 +2,7 @@
 
 use crate::replay_run_scripts::{GROWING, PAGE};
 use crate::replay_run_tests::{Answer, WHOLE, replayed};
+use crate::same::{same, same_bytes};
 use replay_run::Status;
 use std::alloc::{AllocError, Global};
 use std::process::Abort;
@@ -127,8 +128,8 @@ fn see_form(
     told: &str,
 ) -> Result<(), Fail> {
     let it = answered(alloc, words, text)?;
-    assert_eq!(rt; it.status, status, "{told}");
-    assert_eq!(rt; it.sink.taken(), told.as_bytes(), "{told}");
+    same(rt, &it.status, &status, told);
+    same_bytes(rt, it.sink.taken(), told.as_bytes(), told);
     Ok(())
 }
 
@@ -169,7 +170,7 @@ const PAGES: [(&[&str], bool); 6] = [
 fn a_page_is_handed_out_where_a_script_was_run(rt: HostRuntime) -> Result<(), Fail> {
     for (words, has_page) in PAGES {
         let it = answered(rt.alloc(), words, PAGE)?;
-        assert_eq!(&rt; it.has_page, has_page);
+        same(&rt, &it.has_page, &has_page, "whether a page is handed out");
     }
     Ok(())
 }

@@ -2,6 +2,7 @@
 
 use crate::replay_run_scripts::PAGE;
 use crate::replay_run_tests::{Streams, WHOLE, in_pieces, replayed};
+use crate::same::{same, same_bytes};
 use replay_run::Status;
 use std::alloc::Global;
 use std::process::Abort;
@@ -91,9 +92,9 @@ fn see_judged(
     let mut words = Vec::new(alloc);
     words.push(String::from_str(alloc, "--judge")?)?;
     let it = replayed(alloc, &words, source.as_bytes(), streams)?;
-    assert_eq!(rt; it.status, status, "{source}");
+    same(rt, &it.status, &status, source);
     assert!(rt; !it.has_page, "{source}");
-    assert_eq!(rt; it.sink.taken(), told.as_bytes(), "{source}");
+    same_bytes(rt, it.sink.taken(), told.as_bytes(), source);
     Ok(())
 }
 
@@ -161,7 +162,7 @@ const TOLD_BYTES: u64 = 16;
 #[test]
 fn a_judgement_ends_with_a_call_that_fails(rt: HostRuntime) -> Result<(), Fail> {
     let source = FAILING;
-    assert_eq!(&rt; source.len() as u64, FAILING_BYTES);
+    same(&rt, &(source.len() as u64), &FAILING_BYTES, "bytes");
     for call in 0..FAILING_BYTES + 1 {
         let streams = in_pieces(1).failing_at(Some(call), None);
         see_judged(&rt, rt.alloc(), source, streams, Status::ReadFault, "")?;

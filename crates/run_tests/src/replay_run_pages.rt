@@ -1,6 +1,7 @@
 //! Several pages in one stream, with what an independent program gives for them.
 
 use crate::replay_run_tests::{Answer, WHOLE, replayed};
+use crate::same::{same, same_bytes};
 use replay_run::Status;
 use std::alloc::{AllocError, Global};
 use std::process::Abort;
@@ -76,8 +77,8 @@ fn see_stream(
     told: &str,
 ) -> Result<(), Fail> {
     let it = run_side_by_side(alloc, text.as_bytes())?;
-    assert_eq!(rt; it.status, status, "{told}");
-    assert_eq!(rt; it.sink.taken(), told.as_bytes(), "{told}");
+    same(rt, &it.status, &status, told);
+    same_bytes(rt, it.sink.taken(), told.as_bytes(), told);
     assert!(rt; !it.has_page);
     Ok(())
 }
@@ -98,7 +99,12 @@ fn a_stream_that_is_too_long_is_refused(rt: HostRuntime) -> Result<(), Fail> {
     let mut text = Vec::from_slice(rt.alloc(), b"page a\nscript 1\n")?;
     text.resize(TOO_LONG, b' ')?;
     let it = run_side_by_side(rt.alloc(), &text)?;
-    assert_eq!(&rt; it.status, Status::Limit);
-    assert_eq!(&rt; it.sink.taken(), b"limit script 3 16777216\n".as_slice());
+    same(&rt, &it.status, &Status::Limit, "a script too long");
+    same_bytes(
+        &rt,
+        it.sink.taken(),
+        b"limit script 3 16777216\n".as_slice(),
+        "a script too long",
+    );
     Ok(())
 }

@@ -1,7 +1,7 @@
 //! Scripts with their traces.
 
 /// Scripts that run to their end, and what each writes.
-pub(crate) const RUNS: [(&str, &str); 36] = [
+pub(crate) const RUNS: [(&str, &str); 37] = [
     // A block is told its size in its first tick, and nothing in a second one.
     (
         "script 1\nblock r top\nappend top r\nro o top -\nro-observe o r content\ntick 0\ntick 16\n",
@@ -62,6 +62,11 @@ pub(crate) const RUNS: [(&str, &str); 36] = [
     (
         "script 1\nhandler ha\nremove q\nend\nblock r top\nappend top r\nframe f top kid\nappend r f\nblock k kid\nappend kid k\nblock q kid\nset q height 50px\nappend k q\nblock w kid\nset w height 20px\nappend q w\nio a top ha root - margin threshold 0\nio-observe a r\nio b kid - root q margin threshold 0\nio-observe b w\ntick 0\nappend k q\nset w display none\ntick 16\n",
         "tick 0\nintersect a r 0 yes 491520000/491520000 root 0 0 800 600 box 0 0 800 150 cut 0 0 800 150\ntick 16\nintersect b w 0 yes 24576000/24576000 root 0 0 300 50 box 0 0 300 20 cut 0 0 300 20\nintersect b w 16 no 0/1 root 0 0 300 50 box 0 0 0 0 cut 0 0 0 0\n",
+    ),
+    // Of two documents neither has registrations at first, then one, then the other; a root is moved between them.
+    (
+        "script 1\nblock r top\nappend top r\nframe f top kid\nappend r f\nblock k kid\nappend kid k\nblock q kid\nset q height 40px\nappend k q\nblock t kid\nset t height 10px\nappend q t\nio a top - root - margin threshold\nio b kid - root kid margin threshold\nio c kid - root q margin threshold\ntick 0\nio-observe b t\ntick 16\nio-unobserve b t\nio-observe a t\nset q height 50px\ntick 32\nio-observe c t\nio-disconnect a\ntick 48\nremove q\nappend r q\ntick 64\nset t display none\ntick 80\nio-disconnect c\nset t display block\ntick 96\n",
+        "tick 0\ntick 16\nintersect b t 16 yes 12288000/12288000 root 0 0 300 150 box 0 0 300 10 cut 0 0 300 10\ntick 32\nintersect a t 32 yes 12288000/12288000 root 0 0 800 600 box 0 0 300 10 cut 0 0 300 10\ntick 48\nintersect c t 48 yes 12288000/12288000 root 0 0 300 50 box 0 0 300 10 cut 0 0 300 10\ntick 64\ntick 80\nintersect c t 80 no 0/1 root 0 150 800 50 box 0 0 0 0 cut 0 0 0 0\ntick 96\n",
     ),
     // A listener stands once, however often it is added; the query list is told of its change.
     (

@@ -2,6 +2,7 @@
 
 use crate::common::failing;
 use crate::replay_run_scripts::{ENDLESS, GROWING, PAGE, REFUSED, RUNS, TOLD};
+use crate::same::{same, same_bytes};
 use replay_run::{Status, run_uncounted};
 use std::alloc::{AllocError, Global};
 use std::marker::Brand;
@@ -84,9 +85,9 @@ pub(crate) fn expect(
     taken: &str,
 ) -> Result<(), Fail> {
     let it = replayed(alloc, &[], text.as_bytes(), streams)?;
-    assert_eq!(rt; it.status, status, "{text}");
-    assert_eq!(rt; it.has_page, status == Status::Done, "{text}");
-    assert_eq!(rt; it.sink.taken(), taken.as_bytes(), "{text}");
+    same(rt, &it.status, &status, text);
+    same(rt, &it.has_page, &(status == Status::Done), text);
+    same_bytes(rt, it.sink.taken(), taken.as_bytes(), text);
     Ok(())
 }
 
@@ -194,10 +195,10 @@ fn see_write(rt: &impl Abort, alloc: Global, call: u64) -> Result<(), Fail> {
     let it = replayed(alloc, &[], text.as_bytes(), streams)?;
     let taken = it.sink.taken();
     let feeds = taken.iter().filter(|byte| **byte == b'\n').count();
-    assert_eq!(rt; it.status, Status::WriteFault);
+    same(rt, &it.status, &Status::WriteFault, call);
     assert!(rt; told.as_bytes().starts_with(taken));
-    assert_eq!(rt; feeds as u64, call);
-    assert_eq!(rt; taken.last().copied().unwrap_or(b'\n'), b'\n');
+    same(rt, &(feeds as u64), &call, call);
+    same(rt, &taken.last().copied().unwrap_or(b'\n'), &b'\n', call);
     Ok(())
 }
 
@@ -218,7 +219,7 @@ const PAGE_BYTES: u64 = 75;
 // Each byte is one call, and so is the end.
 #[test]
 fn a_read_that_fails_ends_the_run(rt: HostRuntime) -> Result<(), Fail> {
-    assert_eq!(&rt; PAGE.len() as u64, PAGE_BYTES);
+    same(&rt, &(PAGE.len() as u64), &PAGE_BYTES, "bytes");
     for call in 0..PAGE_BYTES + 1 {
         let streams = Streams {
             piece: 1,

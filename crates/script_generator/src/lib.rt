@@ -14,7 +14,7 @@ pub use laws::{generated_text_is_a_script, scripts_come_again};
 use script_lexer::Lexer;
 use script_syntax::{Script, parse};
 use std::alloc::{AllocError, Global};
-use templates::text_of;
+pub use templates::text_of;
 
 /// The most bytes that a line may have.
 const MOST_LINE: usize = 4096;

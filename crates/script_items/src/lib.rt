@@ -4,5 +4,5 @@
 mod items;
 mod stops;
 
-pub use items::{play, run_item};
+pub use items::{play, play_items, run_item};
 pub use stops::play_to_tick;

@@ -32,7 +32,8 @@ fn ticks_in(item: &Item) -> u64
 
 /// Runs the items of a script until the end of the tick with this number, counted from 1, and writes their lines as they are
 /// produced. Returns the number of ticks that are lacking: 0 if that tick ended, even if it threw, otherwise the number of
-/// ticks that the script has too few; the page is then ready for further items of the script. The errors are those of `play`.
+/// ticks that the script has too few. The page is ready for further items of the script, whatever is returned. The errors are
+/// those of `play`.
 pub fn play_to_tick<K: Sink, L: Ledger>(
     alloc: Global,
     page: &mut Page,
@@ -45,7 +46,7 @@ pub fn play_to_tick<K: Sink, L: Ledger>(
     ensures says { Runs goes_on page.new.world result (K.taken sink.old) (K.taken sink.new) (K.faults sink.old) (K.faults sink.new)
         (for_each (run_item (handlers_in script.now.items)) (to_tick number script.now.items) page.old.world) }
     ensures lacking { IfOk result (λ lacking. lacking ≡ number - tick_count script.now.items) }
-    ensures ready { IfOk result (λ _. IsReady script.now.items page.new.world) }
+    ensures ready { IsReady script.now.items page.new.world }
 {
     let mut left = number;
     for item in script.items() {

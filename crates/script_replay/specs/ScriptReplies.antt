@@ -1,6 +1,6 @@
 -- The reply to a job for one script: the text that is written, and the status after that. All of this is this project's own
 -- choice.
-use Rattle.std.specs.Prelude.{ℕ, cond, nat_lt, List, Ok, Err}
+use Rattle.std.specs.Prelude.{ℕ, Bool, true, false, cond, nat_lt, List, Ok, Err}
 use Rattle.script_model.specs.Syntax as syntax
 use Rattle.script_model.specs.Reading.{Reading}
 use Rattle.script_model.specs.TraceText.{line_text}
@@ -32,6 +32,15 @@ told_with sight number items said Limited = record { text = bytes_of (last_of (s
 unfoldable pub sight_reply : Sight → ℕ → syntax.Script → Reply
 unfolding after bytes_of last_of told_text
 sight_reply sight number script = told_with sight number (script.items) (after script number) (after script number).flow
+
+-- the jobs for which a script is run
+abbrev pub takes_steps : Job → Bool
+takes_steps Replay = true
+takes_steps Check = false
+takes_steps Lint = false
+takes_steps Summary = true
+takes_steps Print = false
+takes_steps (AtTick sight number) = true
 
 -- the reply of each job for a script
 unfoldable pub script_reply : Job → syntax.Script → Reply

@@ -1,6 +1,7 @@
 //! Performs a job on one script, on a page of its own if it needs one, and writes the result.
 #![tactic(auto)]
 
+mod drop_sink;
 mod report;
 mod script;
 mod sights;

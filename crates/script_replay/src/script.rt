@@ -1,14 +1,16 @@
 //! The jobs on a script.
 
 ghost use Rattle.std.specs.Prelude.{◌≡◌, ◌&&◌, Ok, Err, is_some, true, false, IfSome};
-ghost use Rattle.script_model.specs.Reading.{Reading, reading};
-ghost use Rattle.script_syntax.specs.Parsing.{HasCommonLimit, Parses};
+ghost use Rattle.script_model.specs.Reading.{Reading, Refusal, reading};
+ghost use Rattle.script_syntax.specs.Parsing.{Parses};
 ghost use Rattle.page_model.specs.Outcome.{opening_world, outcome_read};
+ghost use Rattle.frame_update.specs.Ready.{IsReady};
 ghost use Rattle.run_replies.specs.Answers.{Tells};
 ghost use Rattle.run_replies.specs.Replies.{outcome_reply};
 ghost use Rattle.run_replies.specs.Statuses.{is_done};
 ghost use Rattle.run_replies.specs.Words.{is_run};
-ghost use Rattle.script_replay.specs.ScriptReplies.{read_reply, script_reply};
+ghost use Rattle.script_replay.specs.Ready.{IsReadyOf};
+ghost use Rattle.script_replay.specs.ScriptReplies.{read_reply, script_reply, takes_steps};
 
 use crate::report::Report;
 use crate::sights::write_sight;
@@ -29,7 +31,6 @@ use trace_runs::RunFault;
 
 // Writes the line for a text that isn't a script.
 fn refuse_text<K: Sink>(alloc: Global, fault: ParseFault, sink: &mut K) -> Status
-    requires { HasCommonLimit fault }
     ensures tells { (job : Job) (read : Reading) → Parses (Err fault) read → Tells result (read_reply job read)
         (K.taken sink.old) (K.taken sink.new) (K.faults sink.old) (K.faults sink.new) }
     ensures done { is_done result ≡ false }
@@ -85,12 +86,14 @@ fn run_script<K: Sink, L: Ledger>(
 }
 
 /// Performs a job on a script, and writes the result. The page is returned exactly when the script was run to its end for its
-/// trace or its summary.
+/// trace or its summary; it is ready for further items of the script, and for ticks.
 ///
 /// - `Done`, `Limit`: exactly as the reply to the job and the script says, and all of its text was written. `Syntax`,
 ///   `Differs`, `Usage` and `ReadFault` don't occur.
-/// - `WriteFault`: only if the sink's fault count rose in this call; `NoMemory` if an allocation fails. A prefix of the text
-///   was written.
+/// - `WriteFault`: only if the sink's fault count rose in this call; a prefix of the text was written.
+/// - `NoMemory` if an allocation fails; the first lines of the text were written, each of them whole.
+///
+/// `Check`, `Lint` and `Print` take no steps.
 pub fn perform<K: Sink, L: Ledger>(
     alloc: Global,
     job: Job,
@@ -101,6 +104,8 @@ pub fn perform<K: Sink, L: Ledger>(
     ensures tells { Tells result.status (script_reply job script.now) (K.taken sink.old) (K.taken sink.new) (K.faults sink.old) (K.faults sink.new) }
     ensures page { is_some result.page ≡ (is_run job && is_done result.status) }
     ensures world { IfSome result.page (λ page. page.world ≡ (outcome_read (Ok script.now)).world) }
+    ensures ready { IfSome result.page (λ page. IsReady script.now.items page.world) }
+    ensures steps { takes_steps job ≡ false → steps.new ≡ steps.old }
 {
     match job {
         Job::Replay => run_script(alloc, script, sink, steps),
@@ -125,7 +130,7 @@ pub fn perform<K: Sink, L: Ledger>(
 }
 
 /// The same for the text of a script; for a text that isn't a script, writes the line that says where the fault is, with
-/// `Syntax` or `Limit`.
+/// `Syntax` or `Limit`, and takes no steps.
 pub fn perform_on_text<K: Sink, L: Ledger>(
     alloc: Global,
     job: Job,
@@ -136,6 +141,9 @@ pub fn perform_on_text<K: Sink, L: Ledger>(
     ensures tells { Tells result.status (read_reply job (reading text)) (K.taken sink.old) (K.taken sink.new) (K.faults sink.old) (K.faults sink.new) }
     ensures page { is_some result.page ≡ (is_run job && is_done result.status) }
     ensures world { IfSome result.page (λ page. page.world ≡ (outcome_read (reading text)).world) }
+    ensures ready { IfSome result.page (λ page. IsReadyOf (reading text) page.world) }
+    ensures steps { takes_steps job ≡ false → steps.new ≡ steps.old }
+    ensures refused_steps { (refusal : Refusal) → reading text ≡ Err refusal → steps.new ≡ steps.old }
 {
     match text.parse(alloc) {
         Ok(script) => perform(alloc, job, &script, sink, steps),

@@ -14,6 +14,7 @@ ghost use Rattle.script_replay.specs.ScriptReplies.{sight_reply, told_text};
 ghost use Rattle.script_replay.specs.Sights.{hit_text, hits_text, sight_text, ticks_text};
 ghost use Rattle.script_items.specs.Stops.{tick_count};
 
+use crate::drop_sink::DropSink;
 use box_inspector::{BoxLine, inspect, write_box};
 use element_tree::NodeId;
 use event_tables::EventTarget;
@@ -28,7 +29,6 @@ use std::sync::ledger::Ledger;
 use step_count::Steps;
 use text_io::Sink;
 use trace_runs::RunFault;
-use trace_summary::GatherSink;
 use word_model::push_decimal;
 
 // Returns the line for a script that has fewer ticks.
@@ -157,7 +157,7 @@ fn write_told<K: Sink, L: Ledger>(
     }
 }
 
-// The same, on a new page. The trace is collected in memory and discarded.
+// The same, on a new page. The trace is dropped line by line.
 fn write_sight_on<K: Sink, L: Ledger>(
     alloc: Global,
     page: &mut Page,
@@ -170,14 +170,14 @@ fn write_sight_on<K: Sink, L: Ledger>(
     requires { page.old.world ≡ opening_world script.now.version }
     ensures { Tells result (sight_reply sight number script.now) (K.taken sink.old) (K.taken sink.new) (K.faults sink.old) (K.faults sink.new) }
 {
-    let mut gathered = GatherSink::new(alloc);
-    match play_to_tick(alloc, page, script, number, &mut gathered, steps) {
+    let mut dropped = DropSink {};
+    match play_to_tick(alloc, page, script, number, &mut dropped, steps) {
         Ok(lacking) => write_told(alloc, page, sight, number, lacking, script, sink, steps),
         Err(RunFault::Limit { kind, line, number }) => {
             let wrote = write_limit(alloc, kind, line, number, sink);
             status_of(wrote, Status::Limit)
         }
-        // A write to memory fails only if an allocation fails.
+        // No write to this sink fails.
         Err(RunFault::Memory | RunFault::WriteFault) => Status::NoMemory,
     }
 }

@@ -15,8 +15,8 @@ use std::alloc::Global;
 use std::sync::ledger::Ledger;
 use step_count::Steps;
 use text_io::Sink;
+use text_lines::GatherSink;
 use trace_runs::RunFault;
-use trace_summary::GatherSink;
 
 // Runs a script on a new page, collecting its trace in memory.
 fn summarize_on<K: Sink, L: Ledger>(

@@ -1,3 +1,2 @@
-mod Reading
-mod Pieces
-mod Feeding
+pub mod Reading
+pub mod FirstBytes

@@ -6,7 +6,7 @@ ghost use Rattle.script_model.specs.Reading.{reading};
 ghost use Rattle.script_syntax.specs.Parsing.{HasCommonLimit, Parses};
 ghost use Rattle.script_source.specs.Sources.{IsUnread, ReadTo};
 
-use run_replies::Status;
+use crate::faults::SourceFault;
 use script_lexer::Lexer;
 use script_syntax::{ParseFault, Script, parse};
 use std::alloc::{AllocError, Global};
@@ -86,11 +86,11 @@ impl ScriptText {
 /// Reads the text of a script from the source: all bytes that it has left, or the first 16,777,217 of them.
 ///
 /// # Errors
-/// The status of a run that can't read it: `ReadFault` only where the source's fault count rose in this call, or `NoMemory` if an
-/// allocation fails; no other status. At most 16,777,217 bytes were consumed then.
-pub fn read_script<S: Source>(alloc: Global, source: &mut S) -> Result<ScriptText, Status>
+/// `ReadFault` only where the source's fault count rose in this call, `Memory` if an allocation fails. At most 16,777,217 bytes
+/// were consumed then.
+pub fn read_script<S: Source>(alloc: Global, source: &mut S) -> Result<ScriptText, SourceFault>
     ensures read { IfOk result (λ script. ReadTo 16777217 (S.left source.old) (S.left source.new) script) }
-    ensures cause { IfErr result (λ status. IsUnread status (S.faults source.old) (S.faults source.new)) }
+    ensures cause { IfErr result (λ fault. IsUnread fault (S.faults source.old) (S.faults source.new)) }
     ensures only_by_failing { OnOk result (S.faults source.new ≡ S.faults source.old) }
     ensures at_most { TakesAtMost (S.left source.old) (S.left source.new) 16777217 }
 {
@@ -99,11 +99,11 @@ pub fn read_script<S: Source>(alloc: Global, source: &mut S) -> Result<ScriptTex
     'pieces: while script.room() > 0 {
         let room = script.room().min(PIECE);
         match source.read(&mut buffer[..room]) {
-            Err(Failed) => return Err(Status::ReadFault),
+            Err(Failed) => return Err(SourceFault::ReadFault),
             Ok(0) => return Ok(script),
             Ok(given) => {
                 let Ok(()) = script.feed(&buffer[..given]) else {
-                    return Err(Status::NoMemory);
+                    return Err(SourceFault::Memory);
                 };
             }
         }

@@ -1,8 +1,8 @@
-//! Reading of sources in pieces: the text of a script, or a script followed by its recorded trace.
+//! Reading of the text of a script in pieces.
 #![tactic(auto)]
 
+mod faults;
 mod input;
-mod recorded;
 
+pub use faults::SourceFault;
 pub use input::{ScriptText, read_script};
-pub use recorded::{RecordedText, read_recorded};

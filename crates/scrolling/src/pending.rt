@@ -62,6 +62,18 @@ pub(crate) fn add_pending(
     Ok(())
 }
 
+// Returns the list of a document.
+pub(crate) fn list_of(lists: &[Vec<Container>], document: DocumentId) -> &[Container]
+    ensures { seen_containers result.now ≡ entry_or [] (seen_lists lists.now) document.0 }
+{
+    let place = document.0 as usize;
+    if place < lists.len() {
+        lists[place].as_slice()
+    } else {
+        &[]
+    }
+}
+
 // Takes the list of a document, leaving it empty.
 pub(crate) fn take_list(lists: &mut Vec<Vec<Container>>, document: DocumentId) -> Vec<Container>
     ensures value { seen_containers result.items ≡ entry_or [] (seen_lists lists.old.items) document.0 }

@@ -13,7 +13,7 @@ ghost use Rattle.container_model.specs.Seen.{seen_container, seen_containers};
 ghost use Rattle.scrolling.specs.Seen.{seen_size, point_of, kept_in, outcome_of};
 
 use crate::Outcome;
-use crate::pending::{add_pending, take_list};
+use crate::pending::{add_pending, list_of, take_list};
 use crate::positions::{Position, position_at, reserve_place, store};
 use element_tree::{Container, DocumentId};
 use px_units::{Point, Size};
@@ -195,6 +195,14 @@ impl Scrolls {
         }
         self.move_to(document, target, position)?;
         Ok(Outcome::Moved)
+    }
+
+    /// Returns a document's pending list, which stays as it is: the targets whose scroll events are pending, in the order in
+    /// which they scrolled first (CSSOM View, 13). It doesn't allocate.
+    pub fn pending(&self, document: DocumentId) -> &[Container]
+        ensures { seen_containers result.now ≡ pending_of document.0 self.now }
+    {
+        list_of(self.pending.as_slice(), document)
     }
 
     /// Takes a document's pending list, leaving it empty (CSSOM View, 13: run the scroll steps). It doesn't allocate.

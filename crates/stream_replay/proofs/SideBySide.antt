@@ -11,8 +11,8 @@ use Rattle.script_model.specs.Syntax.{Script}
 use Rattle.page_model.specs.Outcome.{Ending, refused_ending}
 use Rattle.trace_runs.specs.declared.faults.RunFault.{RunFault}
 use Rattle.trace_runs.specs.declared.faults.RunFault.TheVariants as fault
-use Rattle.trace_runs.specs.Writes.{AppendsPart, FailsWithin, Wrote}
-use Rattle.trace_runs.proofs.Writes.{both, no_part, nothing, part_begins, part_behind, failure_begins, failure_behind}
+use Rattle.trace_runs.specs.Writes.{AppendsLines, EndsLine, FailsWithin, Wrote}
+use Rattle.trace_runs.proofs.Writes.{both, ends_both, no_line, nothing, lines_begin, lines_behind, failure_begins, failure_behind}
 use Rattle.trace_summary.proofs.Rows.{Writing}
 use Rattle.page_stream.specs.declared.stream.Part.{Part}
 use Rattle.page_stream.specs.Pages.{pages_of}
@@ -30,7 +30,7 @@ use Rattle.run_replies.specs.Statuses.{is_whole, status_after, status_of}
 use Rattle.stream_replay.specs.declared.stream_page.StreamPage.{StreamPage}
 use Rattle.run_replies.specs.declared.status.Status.{Status}
 use Rattle.run_replies.specs.declared.status.Status.TheVariants.{Done, Syntax, Limit}
-use Rattle.stream_replay.proofs.NamedLines.{cut_behind, named_nothing}
+use Rattle.stream_replay.proofs.NamedLines.{cut_behind, named_ends, named_nothing}
 use Rattle.run_replies.proofs.Summaries.{IsWhole, wrote_tells}
 
 -- the elements from a place on
@@ -44,10 +44,24 @@ drop_from (x ∷ xs) (suc k) d inside = let next : suc (k + 1) ≡ suc k + 1 = o
 abbrev pub scripts_left : ℕ → List ℕ → List PageScript
 scripts_left place source = scripts_from place (drop place (pages_of source)) source
 
+-- whole lines are written as the pages are opened
+refused_ends : (script : PageScript) → EndsLine (refused_text script)
+unfolding refused_text
+refused_ends script = named_ends script.name (refused_lines script.read)
+
+all-ends : (scripts : List PageScript) → EndsLine (flat_map refused_text scripts)
+all-ends [] = tt
+all-ends (script ∷ scripts) = ends_both (refused_text script) (flat_map refused_text scripts) (refused_ends script) (all-ends scripts)
+
+opened_ends : (scripts : List PageScript) → EndsLine (stream_opened scripts).text
+unfolding stream_opened
+opened_ends scripts = all-ends scripts
+
 -- so many pages were opened
 pub record Opening (source : List ℕ) (place : ℕ) (pages : List StreamPage) (before now : Option (List ℕ)) (f g : ℕ) : Type 0 where
   pub so_far : map seen_page pages ++ map opened (scripts_left place source) ≡ (stream_opened (scripts_of source)).pages
   pub text : Writing before now f g (stream_opened (scripts_of source)).text (flat_map refused_text (scripts_left place source))
+  pub ends : EndsLine text.part
   pub lines : All IsOneLine (opening_lines (scripts_left place source)) → All IsOneLine (opening_lines (scripts_of source))
   pub ready : All IsReadyPage pages
 
@@ -56,6 +70,7 @@ unfolding stream_opened scripts_of
 opening_none source pages now f none = record {
   so_far = ap (λ (ps : List StreamPage). map seen_page ps ++ map opened (scripts_left 0 source)) none;
   text = record { part = []; makes = refl; written = nothing now; unfailed = refl };
+  ends = tt;
   lines = λ fit. fit;
   ready = subst (λ (ps : List StreamPage). All IsReadyPage ps) (sym none) (All-nil IsReadyPage);
 }
@@ -87,6 +102,7 @@ opening_more {source} {place} {pages} {longer} {before} {mid} {after} {f} {fm} {
     written = both before mid after here.text.part (refused_text (script_at source place name)) here.text.written wrote;
     unfailed = unfailed ∙ here.text.unfailed;
   };
+  ends = ends_both here.text.part (refused_text (script_at source place name)) here.ends (refused_ends (script_at source place name));
   lines = λ later.
       here.lines
       (subst (λ (scripts : List PageScript). All IsOneLine (opening_lines scripts)) (sym (next_left source place name d inside is))
@@ -98,7 +114,7 @@ pub opening_cut : (A B : Type 0) (source : List ℕ) (place : ℕ) (pages : List
     → Opening source place pages before mid f fm → place < length (pages_of source) → name ≡ get_or (pages_of source) place d
     → Wrote {A = A} (Err it) mid after fm g (refused_text (script_at source place name)) → Wrote {A = B} (Err it) before after f g (stream_opened (scripts_of source)).text
 opening_cut A B source place pages before mid after f fm g it name d here inside is cut =
-    cut_behind A B before mid after f fm g (stream_opened (scripts_of source)).text (flat_map refused_text (scripts_left place source)) it (refused_text (script_at source place name)) (flat_map refused_text (scripts_left (place + 1) source)) here.text
+    cut_behind A B before mid after f fm g (stream_opened (scripts_of source)).text (flat_map refused_text (scripts_left place source)) it (refused_text (script_at source place name)) (flat_map refused_text (scripts_left (place + 1) source)) here.text here.ends
     (ap (λ scripts. flat_map refused_text scripts) (next_left source place name d inside is)) cut
 
 none_left : (source : List ℕ) (place : ℕ) → length (pages_of source) ≤ place → scripts_left place source ≡ []
@@ -123,6 +139,7 @@ opening_fit {source = source} {place = place} here past =
 -- so many lines were taken
 pub record Turning (start : List PageRun) (parts : List Part) (place : ℕ) (pages : List StreamPage) (before now : Option (List ℕ)) (f g : ℕ) : Type 0 where
   pub text : List ℕ
+  pub ends : EndsLine text
   pub so_far : fold stream_step (record { text = text; pages = map seen_page pages }) (drop place parts) ≡ parts_run start parts
   pub written : Appends before now text
   pub unfailed : g ≡ f
@@ -131,7 +148,7 @@ pub record Turning (start : List PageRun) (parts : List Part) (place : ℕ) (pag
 
 pub turning_none : (pages : List StreamPage) (parts : List Part) (now : Option (List ℕ)) (f : ℕ) → All IsReadyPage pages → Turning (map seen_page pages) parts 0 pages now now f f
 unfolding parts_run
-turning_none pages parts now f ready = record { text = []; so_far = refl; written = nothing now; unfailed = refl; lines = λ fit. fit; ready = ready }
+turning_none pages parts now f ready = record { text = []; ends = tt; so_far = refl; written = nothing now; unfailed = refl; lines = λ fit. fit; ready = ready }
 
 step-some : (run : StreamRun) (part : Part) (page : PageRun) → slice_get run.pages part.page ≡ Some page → stream_step run part ≡ with_turn part.page page.name run (turn_at part.line page.standing)
 unfolding stream_step
@@ -168,6 +185,7 @@ pub turning_more : {start : List PageRun} {parts : List Part} {place : ℕ} {pag
     → Turning start parts (place + 1) (slice_set pages part.page new) before after f g
 turning_more {start} {parts} {place} {pages} {before} {mid} {after} {f} {fm} {g} part d page new here inside is at wrote unfailed fit seen ready = record {
   text = here.text ++ named_text page.name (turn_at part.line (seen_page page).standing).lines;
+  ends = ends_both here.text (named_text page.name (turn_at part.line (seen_page page).standing).lines) here.ends (named_ends page.name (turn_at part.line (seen_page page).standing).lines);
   so_far =
       ap (λ ps. fold stream_step (record { text = here.text ++ named_text page.name (turn_at part.line (seen_page page).standing).lines; pages = ps }) (drop (place + 1) parts))
       (map-set seen_page pages part.page new ∙ ap (λ p. slice_set (map seen_page pages) part.page p) seen)
@@ -191,6 +209,7 @@ pub turning_same : {start : List PageRun} {parts : List Part} {place : ℕ} {pag
     → Turning start parts place pages before now f g → place < length parts → part ≡ get_or parts place d → length pages ≤ part.page → Turning start parts (place + 1) pages before now f g
 turning_same {start} {parts} {place} {pages} {before} {now} {f} {g} part d here inside is past = record {
   text = here.text;
+  ends = here.ends;
   so_far =
       ap (λ run. fold stream_step run (drop (place + 1) parts)) (sym (step-none (record { text = here.text; pages = map seen_page pages }) part (get-none pages part.page past)))
       ∙ ap (λ p. fold stream_step (stream_step (record { text = here.text; pages = map seen_page pages }) p) (drop (place + 1) parts)) is
@@ -233,7 +252,7 @@ pub turning_cut : (A B : Type 0) (start : List PageRun) (parts : List Part) (pla
     → Turning start parts place pages before mid f fm → place < length parts → part ≡ get_or parts place d → slice_get pages part.page ≡ Some page
     → Wrote {A = A} (Err it) mid after fm g (named_text page.name (turn_at part.line (seen_page page).standing).lines) → Wrote {A = B} (Err it) before after f g (parts_run start parts).text
 turning_cut A B start parts place pages before mid after f fm g it part d page here inside is at cut =
-    cut_behind A B before mid after f fm g (parts_run start parts).text (lines ++ later) it lines later so_far refl cut
+    cut_behind A B before mid after f fm g (parts_run start parts).text (lines ++ later) it lines later so_far here.ends refl cut
   where
     lines : List ℕ
     lines = named_text page.name (turn_at part.line (seen_page page).standing).lines
@@ -273,12 +292,12 @@ stream_parts source =
     ∙ fold-behind run.text (record { text = []; pages = run.pages }) (parts_of source)
 
 -- a text behind another, whether it was written whole
-pub wrote_behind : {A : Type 0} (r : Result A RunFault) (before mid after : Option (List ℕ)) (f fm g : ℕ) (first second : List ℕ) → Appends before mid first → fm ≡ f → Wrote r mid after fm g second
+pub wrote_behind : {A : Type 0} (r : Result A RunFault) (before mid after : Option (List ℕ)) (f fm g : ℕ) (first second : List ℕ) → EndsLine first → Appends before mid first → fm ≡ f → Wrote r mid after fm g second
     → Wrote r before after f g (first ++ second)
-wrote_behind (Ok value) before mid after f fm g first second begun unfailed wrote = (both before mid after first second begun wrote.0, wrote.1 ∙ unfailed)
-wrote_behind (Err (fault.Limit kind line number)) before mid after f fm g first second begun unfailed wrote = absurd wrote
-wrote_behind (Err fault.Memory) before mid after f fm g first second begun unfailed wrote = (part_behind before first begun wrote.0, wrote.1 ∙ unfailed)
-wrote_behind (Err fault.WriteFault) before mid after f fm g first second begun unfailed wrote = failure_behind before f first begun unfailed wrote
+wrote_behind (Ok value) before mid after f fm g first second ends begun unfailed wrote = (both before mid after first second begun wrote.0, wrote.1 ∙ unfailed)
+wrote_behind (Err (fault.Limit kind line number)) before mid after f fm g first second ends begun unfailed wrote = absurd wrote
+wrote_behind (Err fault.Memory) before mid after f fm g first second ends begun unfailed wrote = (lines_behind before first ends begun wrote.0, wrote.1 ∙ unfailed)
+wrote_behind (Err fault.WriteFault) before mid after f fm g first second ends begun unfailed wrote = failure_behind before f first begun unfailed wrote
 
 whole-at : (faulty limited : Bool) → IsWhole (cond faulty Syntax (cond limited Limit Done))
 whole-at true limited = tt
@@ -314,11 +333,11 @@ stream_tells r source status start parts after_pages before mid after f fm g ope
         let ended : status ≡ stream_status (parts_run start parts).pages = is ∙ ap stream_status ends in
         subst (λ (reply : Reply). Tells status reply before after f g) (ap (λ (s : Status). record { text = text; status = s }) ended ∙ ap run_reply run-is)
         (wrote_tells {A = Unit {0}} (Ok (tt {0})) status text before after f g (subst IsWhole (sym is) (whole-status after_pages))
-        (wrote_behind {A = Unit {0}} (Ok (tt {0})) before mid after f fm g (stream_opened (scripts_of source)).text (parts_run start parts).text begun unfailed wrote))
+        (wrote_behind {A = Unit {0}} (Ok (tt {0})) before mid after f fm g (stream_opened (scripts_of source)).text (parts_run start parts).text (opened_ends (scripts_of source)) begun unfailed wrote))
     by_result (Err it) wrote ends =
         fault_tells it (run_reply (stream_run source)) before after f g
         (subst (λ (t : List ℕ). Wrote {A = Unit {0}} (Err it) before after f g t) (ap (λ (run : StreamRun). run.text) run-is)
-        (wrote_behind {A = Unit {0}} (Err it) before mid after f fm g (stream_opened (scripts_of source)).text (parts_run start parts).text begun unfailed wrote))
+        (wrote_behind {A = Unit {0}} (Err it) before mid after f fm g (stream_opened (scripts_of source)).text (parts_run start parts).text (opened_ends (scripts_of source)) begun unfailed wrote))
 
 -- what is said before the first line and behind it, where all was written
 pub stream_fit : (r : Result (Unit {0}) RunFault) (source : List ℕ) (status : Status) (start : List PageRun) (parts : List Part) (before after : Option (List ℕ)) (f g : ℕ)
@@ -342,7 +361,7 @@ pub cut_tells : (A : Type 0) (it : RunFault) (source : List ℕ) (before after :
     → Tells (status_of it) (run_reply (stream_run source)) before after f g
 cut_tells A (fault.Limit kind line number) source before after f g cut = absurd cut
 cut_tells A fault.Memory source before after f g cut =
-    (subst (λ (t : List ℕ). AppendsPart before after t) (ap (λ (r : StreamRun). r.text) (sym (stream_parts source))) (part_begins (parts_run (stream_opened (scripts_of source)).pages (parts_of source)).text cut.0), cut.1)
+    (subst (λ (t : List ℕ). AppendsLines before after t) (ap (λ (r : StreamRun). r.text) (sym (stream_parts source))) (lines_begin (parts_run (stream_opened (scripts_of source)).pages (parts_of source)).text cut.0), cut.1)
 cut_tells A fault.WriteFault source before after f g cut =
     subst (λ (t : List ℕ). FailsWithin before after f g t) (ap (λ (r : StreamRun). r.text) (sym (stream_parts source))) (failure_begins (parts_run (stream_opened (scripts_of source)).pages (parts_of source)).text cut)
 
@@ -375,14 +394,14 @@ ready_more (Ok done) pages longer page is ready = λ all.
 ready_more (Err it) pages longer page is ready = tt
 
 -- what was written before want of memory
-pub then_wrote : (r : Result (Unit {0}) RunFault) (before after : Option (List ℕ)) (f g : ℕ) (text : List ℕ) → OnErr r (r ≡ Err fault.Memory) → Appends before after text → g ≡ f → Wrote r before after f g text
-then_wrote (Ok done) before after f g text memory written unfailed = (written, unfailed)
-then_wrote (Err (fault.Limit kind line number)) before after f g text memory written unfailed = absurd (let no : ⊥ = cc in no)
-then_wrote (Err fault.Memory) before after f g text memory written unfailed = (record { part = text; rest = []; whole = sym (append-nil text); written = written }, unfailed)
-then_wrote (Err fault.WriteFault) before after f g text memory written unfailed = absurd (let no : ⊥ = cc in no)
+pub then_wrote : (r : Result (Unit {0}) RunFault) (before after : Option (List ℕ)) (f g : ℕ) (text : List ℕ) → OnErr r (r ≡ Err fault.Memory) → EndsLine text → Appends before after text → g ≡ f → Wrote r before after f g text
+then_wrote (Ok done) before after f g text memory ends written unfailed = (written, unfailed)
+then_wrote (Err (fault.Limit kind line number)) before after f g text memory ends written unfailed = absurd (let no : ⊥ = cc in no)
+then_wrote (Err fault.Memory) before after f g text memory ends written unfailed = (record { part = text; rest = []; whole = sym (append-nil text); ends = ends; written = written }, unfailed)
+then_wrote (Err fault.WriteFault) before after f g text memory ends written unfailed = absurd (let no : ⊥ = cc in no)
 
 pub memory_cut : (it : RunFault) (now : Option (List ℕ)) (f : ℕ) (text : List ℕ) → it ≡ fault.Memory → Wrote {A = Unit {0}} (Err it) now now f f text
-memory_cut it now f text is = subst (λ (e : RunFault). Wrote {A = Unit {0}} (Err e) now now f f text) (sym is) (no_part now text, refl)
+memory_cut it now f text is = subst (λ (e : RunFault). Wrote {A = Unit {0}} (Err e) now now f f text) (sym is) (no_line now text, refl)
 
 -- what holds whatever is answered
 pub on_ok : {A P : Type 0} (r : Result A RunFault) → P → OnOk r P

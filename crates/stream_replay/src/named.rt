@@ -9,8 +9,8 @@ ghost use Rattle.stream_replay.specs.NamedTexts.{named_lines};
 
 use std::alloc::{AllocError, Global};
 use text_io::{Name, Sink};
+use text_lines::split_line;
 use trace_runs::{RunFault, write_text};
-use trace_summary::split_line;
 use trace_text::line_ends_once;
 
 // Returns a line prefixed with the name and a space.

@@ -1,7 +1,7 @@
 //! Running several pages of one stream side by side.
 
 ghost use Rattle.std.specs.Io.KnownBytes.{Appends};
-ghost use Rattle.std.specs.Prelude.{ℕ, List, Option, ◌≡◌, ◌≤◌, ◌++◌, ◌∷◌, [], length, map, ◌<◌, true, Ok, Err, IfOk, IfSome, OnOk, OnErr};
+ghost use Rattle.std.specs.Prelude.{ℕ, List, Option, ◌≡◌, ◌≤◌, ◌++◌, ◌∷◌, [], length, map, slice_range, take, ◌<◌, true, Ok, Err, IfOk, IfSome, OnOk, OnErr};
 ghost use Rattle.std.specs.List.{All, list_any};
 ghost use Rattle.text_io.specs.Streams.{Rose};
 ghost use Rattle.script_model.specs.Reading.{reading};
@@ -27,15 +27,15 @@ use page_stream::{Part, Stream, StreamFault, split};
 use run_replies::{Status, meet_limit, refuse_at, status_of};
 use script_source::ScriptText;
 use script_syntax::{ParseFault, Script};
-use std::alloc::Global;
+use std::alloc::{AllocError, Global};
 use std::sync::ledger::Ledger;
 use step_count::Steps;
 use stream_runs::laws::{
     each_page_is_as_if_it_ran_alone, lines_of_the_stream_are_those_of_its_pages,
 };
 use text_io::{LimitKind, Name, Sink, Source, TextFault, read_all};
+use text_lines::GatherSink;
 use trace_runs::{RunFault, write_one};
-use trace_summary::GatherSink;
 use trace_text::{TraceLine, line_ends_once, value_is_a_line};
 
 /// The maximum number of bytes of a stream.
@@ -140,20 +140,39 @@ fn open_page<K: Sink>(
     }
 }
 
-// Returns the text of a page's script.
+// Appends a line of the source to the text of a page's script, if it belongs to that page.
+fn feed_part(
+    text: &mut ScriptText,
+    source: &[u8],
+    part: &Part,
+    page: usize,
+) -> Result<(), AllocError>
+    requires from { part.now.from ≤ part.now.to }
+    requires to { part.now.to ≤ length source.now }
+    ensures own { OnOk result (part.now.page ≡ page → text.new ≡ take 16777217 (text.old ++ slice_range source.now part.now.from part.now.to)) }
+    ensures other { OnOk result ((part.now.page ≡ page → ⊥) → text.new ≡ text.old) }
+{
+    if part.page != page {
+        return Ok(());
+    }
+    text.feed(&source[part.from..part.to])
+}
+
+// Returns the text of a page's script, of which only the bytes that are looked at are kept. No line is copied but into it.
 fn text_of(alloc: Global, stream: &Stream<'_>, page: usize) -> Result<ScriptText, RunFault>
     requires { page < length (pages_of stream.now) }
     ensures text { IfOk result (λ text. reading text ≡ reading (script_of page stream.now)) }
     ensures memory { OnErr result (result ≡ Err RunFault.Memory) }
 {
-    let Ok(script) = stream.script(alloc, page) else {
-        return Err(RunFault::Memory);
-    };
+    let source = stream.source();
+    let parts = stream.parts();
     let mut text = ScriptText::new(alloc);
-    match text.feed(&script) {
-        Ok(()) => Ok(text),
-        Err(_) => Err(RunFault::Memory),
+    for part in parts {
+        let Ok(()) = feed_part(&mut text, source, part, page) else {
+            return Err(RunFault::Memory);
+        };
     }
+    Ok(text)
 }
 
 // Opens the pages of a stream, before the first item of any of them is run.

@@ -20,8 +20,8 @@ use std::alloc::Global;
 use std::sync::ledger::Ledger;
 use step_count::Steps;
 use text_io::{Name, Sink};
+use text_lines::GatherSink;
 use trace_runs::RunFault;
-use trace_summary::GatherSink;
 use trace_text::line_ends_once;
 
 /// A script running on a page of its own.

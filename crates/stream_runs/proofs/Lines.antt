@@ -2,8 +2,8 @@
 use Rattle.std.proofs.Common.{◌≡◌, ◌≢◌, ◌∙◌, refl, sym, ap, ℕ, ◌+◌, ◌≤◌, Bool, true, false, cond, List, [], ◌∷◌, ◌++◌, length, arith, append_assoc, length-append}
 use Rattle.std.specs.Prelude.{◌==◌}
 use Rattle.std.specs.List.{All, AllByRecursion}
-use Rattle.trace_summary.specs.Lines.{behind_line}
-use Rattle.trace_summary.proofs.Splits.{first_fed, behind_fed}
+use Rattle.text_lines.specs.Lines.{behind_line}
+use Rattle.text_lines.proofs.Splits.{first_fed, behind_fed}
 use Rattle.trace_judge.specs.Lines.{before_lines, lines_of}
 use Rattle.trace_judge.proofs.Splits.{lines_by_first}
 use Rattle.stream_runs.specs.Alone.{EndsOnce}

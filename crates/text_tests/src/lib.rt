@@ -10,6 +10,8 @@ mod px_units_tests;
 #[cfg(test)]
 mod readme_examples;
 #[cfg(test)]
+mod same;
+#[cfg(test)]
 mod script_generator_tests;
 #[cfg(test)]
 mod script_lexer_tests;

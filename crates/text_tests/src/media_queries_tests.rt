@@ -1,5 +1,6 @@
 //! Texts with their faults, matches and printed forms, by tables, at other texts than those of the laws in `script_model/src/texts.rt`.
 
+use crate::same::{same, same_bytes};
 use media_queries::{Query, QueryFault};
 use px_units::Size;
 use std::alloc::{AllocError, Global};
@@ -153,7 +154,7 @@ fn parsed(alloc: Global, text: &[u8]) -> Result<Query, AllocError> {
 #[test]
 fn texts_are_read_to_their_fault(rt: HostRuntime) {
     for (text, want) in TEXTS {
-        assert_eq!(rt; fault_of(rt.alloc(), text.as_bytes()), want, "{text}");
+        same(&rt, &fault_of(rt.alloc(), text.as_bytes()), &want, text);
     }
 }
 
@@ -162,9 +163,9 @@ fn lists_match_viewports(rt: HostRuntime) -> Result<(), Fail> {
     for (text, width, height, want) in VIEWPORTS {
         let size = Size { width, height };
         let query = parsed(rt.alloc(), text.as_bytes())?;
-        assert_eq!(rt; query.matches(size), want, "{text}");
+        same(&rt, &query.matches(size), &want, text);
         let copy = query.copy(rt.alloc())?;
-        assert_eq!(rt; copy.matches(size), want, "a copy of {text}");
+        same(&rt, &copy.matches(size), &want, text);
     }
     Ok(())
 }
@@ -175,7 +176,7 @@ fn lists_are_printed(rt: HostRuntime) -> Result<(), Fail> {
         let query = parsed(rt.alloc(), text.as_bytes())?;
         let mut out = Vec::new(rt.alloc());
         query.push_text(&mut out)?;
-        assert_eq!(rt; out.as_slice(), want.as_bytes(), "{text}");
+        same_bytes(&rt, out.as_slice(), want.as_bytes(), text);
     }
     Ok(())
 }

@@ -1,5 +1,6 @@
 //! Streams split into their pages, and sources that are none.
 
+use crate::same::{same, same_bytes};
 use page_stream::{Part, StreamFault, split};
 use std::test::Fail;
 
@@ -92,9 +93,14 @@ fn pages_and_parts_of_a_stream(rt: HostRuntime) -> Result<(), Fail> {
 fn scripts_of_first_pages(rt: HostRuntime) -> Result<(), Fail> {
     for (source, script) in FIRST_SCRIPTS.iter() {
         let stream = split(rt.alloc(), source, MOST_PAGES)?;
-        assert_eq!(&rt; stream.pages().is_empty(), false);
+        assert!(rt; !stream.pages().is_empty());
         if !stream.pages().is_empty() {
-            assert_eq!(&rt; stream.script(rt.alloc(), 0)?.as_slice(), *script);
+            same_bytes(
+                &rt,
+                stream.script(rt.alloc(), 0)?.as_slice(),
+                script,
+                "the first script",
+            );
         }
     }
     Ok(())
@@ -102,18 +108,29 @@ fn scripts_of_first_pages(rt: HostRuntime) -> Result<(), Fail> {
 
 #[test]
 fn a_page_too_many(rt: HostRuntime) -> Result<(), Fail> {
-    assert_eq!(&rt;
-        split(rt.alloc(), NINE, MOST_PAGES).err(),
-        Some(StreamFault::TooManyPages { line: 11 })
+    same(
+        &rt,
+        &split(rt.alloc(), NINE, MOST_PAGES).err(),
+        &Some(StreamFault::TooManyPages { line: 11 }),
+        "nine pages of eight",
     );
-    assert_eq!(&rt; split(rt.alloc(), NINE, 10)?.pages().len(), 10);
-    assert_eq!(&rt;
-        split(rt.alloc(), STREAM, 1).err(),
-        Some(StreamFault::TooManyPages { line: 3 })
+    same(
+        &rt,
+        &split(rt.alloc(), NINE, 10)?.pages().len(),
+        &10,
+        "nine pages of ten",
     );
-    assert_eq!(&rt;
-        split(rt.alloc(), STREAM, 0).err(),
-        Some(StreamFault::TooManyPages { line: 1 })
+    same(
+        &rt,
+        &split(rt.alloc(), STREAM, 1).err(),
+        &Some(StreamFault::TooManyPages { line: 3 }),
+        "two pages of one",
+    );
+    same(
+        &rt,
+        &split(rt.alloc(), STREAM, 0).err(),
+        &Some(StreamFault::TooManyPages { line: 1 }),
+        "two pages of none",
     );
     Ok(())
 }
@@ -121,9 +138,11 @@ fn a_page_too_many(rt: HostRuntime) -> Result<(), Fail> {
 #[test]
 fn sources_that_are_no_streams(rt: HostRuntime) {
     for source in NO_STREAMS.iter() {
-        assert_eq!(&rt;
-            split(rt.alloc(), source, MOST_PAGES).err(),
-            Some(StreamFault::NoPage)
+        same(
+            &rt,
+            &split(rt.alloc(), source, MOST_PAGES).err(),
+            &Some(StreamFault::NoPage),
+            "a source without a page",
         );
     }
 }

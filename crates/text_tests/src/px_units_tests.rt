@@ -1,5 +1,6 @@
 //! Lengths as texts, at others than those of the law `texts_of_units`, and against a basis, and rectangles.
 
+use crate::same::{same, same_bytes};
 use px_units::{
     Length, LengthFault, Percent, Px, Rect, area, meet, print_px, read_percent, read_px, resolve,
     shift,
@@ -18,10 +19,11 @@ fn lengths_are_printed_exactly(rt: HostRuntime) -> Result<(), Fail> {
         (-9223372036854775808, "-144115188075855872"), // the least number of 64 bits
     ];
     for (units, text) in rows {
-        assert_eq!(rt;
+        same_bytes(
+            &rt,
             print_px(rt.alloc(), Px(units))?.as_slice(),
             text.as_bytes(),
-            "{text}"
+            text,
         );
     }
     Ok(())
@@ -44,12 +46,24 @@ fn texts_are_read(rt: HostRuntime) {
 
 #[test]
 fn lengths_are_resolved(rt: HostRuntime) {
-    assert_eq!(rt; resolve(Length::Auto, 6400), None);
-    assert_eq!(rt; resolve(Length::Px(Px(2147483648)), 5), Some(2147483647));
-    assert_eq!(rt; resolve(Length::Percent(Percent(3333)), 1000), Some(333));
-    assert_eq!(rt;
-        resolve(Length::Percent(Percent(20000)), 2147483647),
-        Some(2147483647)
+    same(&rt, &resolve(Length::Auto, 6400), &None, "auto");
+    same(
+        &rt,
+        &resolve(Length::Px(Px(2147483648)), 5),
+        &Some(2147483647),
+        "2^31 units",
+    );
+    same(
+        &rt,
+        &resolve(Length::Percent(Percent(3333)), 1000),
+        &Some(333),
+        "33.33%",
+    );
+    same(
+        &rt,
+        &resolve(Length::Percent(Percent(20000)), 2147483647),
+        &Some(2147483647),
+        "200%",
     );
 }
 
@@ -73,33 +87,39 @@ fn rectangles_meet_at_their_edges(rt: HostRuntime) {
         right: 70,
         bottom: 32,
     };
-    assert_eq!(rt;
-        meet(a, touching),
-        Some(Rect {
+    same(
+        &rt,
+        &meet(a, touching),
+        &Some(Rect {
             left: 64,
             top: 0,
             right: 64,
-            bottom: 10
-        })
+            bottom: 10,
+        }),
+        "an edge in common",
     );
-    assert_eq!(rt; meet(a, apart), None);
-    assert_eq!(rt;
-        shift(a, -1, 2),
-        Rect {
+    same(&rt, &meet(a, apart), &None, "apart");
+    same(
+        &rt,
+        &shift(a, -1, 2),
+        &Rect {
             left: -1,
             top: 2,
             right: 63,
-            bottom: 34
-        }
+            bottom: 34,
+        },
+        "shifted",
     );
-    assert_eq!(rt; area(a), 2048);
-    assert_eq!(rt;
-        area(Rect {
+    same(&rt, &area(a), &2048, "an area");
+    same(
+        &rt,
+        &area(Rect {
             left: 1,
             top: 5,
             right: 0,
-            bottom: 4
+            bottom: 4,
         }),
-        0
+        &0,
+        "the area of a crossed one",
     );
 }

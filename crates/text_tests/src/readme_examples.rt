@@ -9,8 +9,9 @@ use script_syntax::parse;
 use std::test::Fail;
 use style_values::{Style, StyleFault};
 use text_io::{MemorySink, MemorySource, ThrowKind, read_all, write_all};
+use text_lines::GatherSink;
 use trace_runs::{Flow, write_one, write_throw};
-use trace_summary::{GatherSink, Summary};
+use trace_summary::Summary;
 use trace_text::{TraceLine, read_line, write_line};
 use word_model::{length, push_decimal};
 

@@ -1,6 +1,7 @@
 //! Generated scripts as they are printed, with sizes by an independent program. Their texts are what the contract of `make` says; one
 //! stands in `run_tests`, where `--generate` is run.
 
+use crate::same::same;
 use script_generator::make;
 use script_print::print;
 use std::alloc::Global;
@@ -21,10 +22,10 @@ fn see_size(
 ) -> Result<(), Fail> {
     let script = make(alloc, number)?;
     let text = print(alloc, &script)?;
-    assert_eq!(rt; text.len(), bytes, "bytes of {number}");
-    assert_eq!(rt; script.items().len(), items, "items of {number}");
-    assert_eq!(rt; script.handlers(), 1); // `show`
-    assert_eq!(rt; script.version(), Version::First);
+    same(rt, &text.len(), &bytes, "bytes");
+    same(rt, &script.items().len(), &items, "items");
+    same(rt, &script.handlers(), &1, "handlers"); // `show`
+    same(rt, &script.version(), &Version::First, "version");
     Ok(())
 }
 

@@ -2,6 +2,7 @@
 
 ghost use Rattle.std.specs.Prelude.{◌≡◌, ◌≤◌, length};
 
+use crate::same::{same, same_bytes};
 use crate::scripts::{lines_in_pieces, lines_of};
 use script_lexer::{LexFault, Line, Span, Text};
 use std::alloc::{AllocError, Global};
@@ -60,12 +61,12 @@ const ROWS: [Row; 17] = [
 fn see_text(rt: &impl Abort, alloc: Global, found: &Text, row: Row) -> Result<(), Fail> {
     let (text, words, count, bad) = row;
     let fault = bad.map(|(line, column)| LexFault::BadByte { line, column });
-    assert_eq!(rt; found.bytes(), text);
-    assert_eq!(rt; found.line_count(), count);
-    assert_eq!(rt; found.fault(), fault);
+    same_bytes(rt, found.bytes(), text, "bytes");
+    same(rt, &found.line_count(), &count, "lines");
+    same(rt, &found.fault(), &fault, "fault");
     let mut out = Vec::new(alloc);
     push_words(&mut out, found)?;
-    assert_eq!(rt; out.as_slice(), words);
+    same_bytes(rt, out.as_slice(), words, "words");
     Ok(())
 }
 
@@ -128,9 +129,9 @@ fn push_line(text: &mut Vec<u8>, row: LongRow) -> Result<(), AllocError> {
 }
 
 fn see_long_line(rt: &impl Abort, found: &Text, row: LongRow) -> Result<(), Fail> {
-    assert_eq!(rt; found.lines().len(), row.3);
+    same(rt, &found.lines().len(), &row.3, "lines with words");
     let fault = row.4.map(|line| LexFault::LineTooLong { line });
-    assert_eq!(rt; found.fault(), fault);
+    same(rt, &found.fault(), &fault, "fault");
     Ok(())
 }
 

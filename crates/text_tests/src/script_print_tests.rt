@@ -1,5 +1,6 @@
 //! Scripts in free form with their texts.
 
+use crate::same::same_bytes;
 use crate::scripts::script_of;
 use script_print::print;
 use std::alloc::Global;
@@ -67,7 +68,7 @@ const ROWS: [(&str, &str); 9] = [
 fn see_print(rt: &impl Abort, alloc: Global, text: &str, form: &str) -> Result<(), Fail> {
     let script = script_of(rt, alloc, text)?;
     let printed = print(alloc, &script)?;
-    assert_eq!(rt; printed.as_slice(), form.as_bytes(), "{text}");
+    same_bytes(rt, printed.as_slice(), form.as_bytes(), text);
     Ok(())
 }
 

@@ -1,5 +1,6 @@
 //! Texts that are scripts, or have a first fault or limit, and the items of a script.
 
+use crate::same::{same, same_bytes};
 use crate::scripts::script_of;
 use script_syntax::{Action, Command, Item, MarginText, ParseFault, Script, What};
 use std::alloc::{AllocError, Global};
@@ -194,7 +195,7 @@ fn outcome_of(rt: &impl Abort, alloc: Global, text: &str) -> Result<Outcome, All
 fn texts_are_scripts_or_have_a_first_fault(rt: HostRuntime) -> Result<(), Fail> {
     for (text, want) in TEXTS {
         let outcome = outcome_of(&rt, rt.alloc(), text)?;
-        assert_eq!(rt; outcome, want, "{text}");
+        same(&rt, &outcome, &want, text);
     }
     Ok(())
 }
@@ -211,21 +212,43 @@ fn line_of(item: &Item) -> u32 {
 // Of `EVERY_COMMAND`: its lines 2 to 33, the handler on line 34, which holds an `each`, a `when` on the lines 42 and 44 each, and the empty
 // handler on line 46.
 fn see_items(rt: &impl Abort, script: &Script) {
-    assert_eq!(rt; script.items().len(), 36);
-    assert_eq!(rt; script.items().last().map(line_of), Some(46));
-    assert_eq!(rt; script.handlers(), 2);
-    assert_eq!(rt; script.handler(0).map(|it| it.line), Some(34));
-    assert_eq!(rt;
-        script.handler(0).map(|it| it.commands.as_slice().len()),
-        Some(1)
+    same(rt, &script.items().len(), &36, "items");
+    same(
+        rt,
+        &script.items().last().map(line_of),
+        &Some(46),
+        "the line of the last item",
     );
-    assert_eq!(rt; script.handler(1).map(|it| it.line), Some(46));
-    assert_eq!(rt; script.handler(2).map(|it| it.line), None);
+    same(rt, &script.handlers(), &2, "handlers");
+    same(
+        rt,
+        &script.handler(0).map(|it| it.line),
+        &Some(34),
+        "the line of the first handler",
+    );
+    same(
+        rt,
+        &script.handler(0).map(|it| it.commands.as_slice().len()),
+        &Some(1),
+        "its commands",
+    );
+    same(
+        rt,
+        &script.handler(1).map(|it| it.line),
+        &Some(46),
+        "the line of the second handler",
+    );
+    same(
+        rt,
+        &script.handler(2).map(|it| it.line),
+        &None,
+        "no third handler",
+    );
 }
 
 fn see_name(rt: &impl Abort, script: &Script, text: &str, number: Option<u32>) {
     match Name::read(text.as_bytes()) {
-        Some(name) => assert_eq!(rt; script.handler_named(name), number, "{text}"),
+        Some(name) => same(rt, &script.handler_named(name), &number, text),
         None => assert!(rt; false, "{text}"),
     }
 }
@@ -243,9 +266,9 @@ fn a_script_has_its_items_and_handlers(rt: HostRuntime) -> Result<(), Fail> {
 #[test]
 fn a_script_has_its_version(rt: HostRuntime) -> Result<(), Fail> {
     let first = script_of(&rt, rt.alloc(), "script 1\n")?;
-    assert_eq!(rt; first.version(), Version::First);
+    same(&rt, &first.version(), &Version::First, "version 1");
     let second = script_of(&rt, rt.alloc(), SECOND_VERSION)?;
-    assert_eq!(rt; second.version(), Version::Second);
+    same(&rt, &second.version(), &Version::Second, "version 2");
     Ok(())
 }
 
@@ -299,6 +322,11 @@ fn a_query_has_its_place_in_the_line(rt: HostRuntime) -> Result<(), Fail> {
     for item in script.items() {
         push_queries(item, &mut out)?;
     }
-    assert_eq!(rt; out.as_slice(), b"all,print".as_slice());
+    same_bytes(
+        &rt,
+        out.as_slice(),
+        b"all,print".as_slice(),
+        "the list of queries",
+    );
     Ok(())
 }

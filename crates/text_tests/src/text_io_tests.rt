@@ -1,5 +1,6 @@
 //! Texts read and written in pieces of any size with calls that fail, std's reader and writer, names and kinds.
 
+use crate::same::{same, same_bytes};
 use crate::streams::{sink, source};
 use std::alloc::Global;
 use std::io;
@@ -37,11 +38,21 @@ fn see_read(rt: &impl Abort, alloc: Global, source: &mut MemorySource, row: Read
     let (piece, _, limit, wanted) = row;
     match read_all(alloc, source, usize::from(limit)) {
         Ok(text) => {
-            assert_eq!(rt; text.as_slice(), TEXT);
-            assert_eq!(rt; wanted, None, "pieces of {piece}, limit {limit}");
+            same_bytes(rt, text.as_slice(), TEXT, "the text that is read");
+            same(
+                rt,
+                &(piece, limit, wanted),
+                &(piece, limit, None),
+                "pieces, limit, fault",
+            );
         }
         Err(fault) => {
-            assert_eq!(rt; wanted, Some(fault), "pieces of {piece}, limit {limit}");
+            same(
+                rt,
+                &(piece, limit, wanted),
+                &(piece, limit, Some(fault)),
+                "pieces, limit, fault",
+            );
         }
     }
 }
@@ -80,11 +91,17 @@ fn see_written(rt: &impl Abort, sink: &mut MemorySink, row: WriteRow) {
     } else {
         Err(TextFault::WriteFault)
     };
-    assert_eq!(rt; answer, wanted, "room for {room}, pieces of {piece}");
-    assert_eq!(rt;
-        sink.taken().len(),
-        taken,
-        "room for {room}, pieces of {piece}"
+    same(
+        rt,
+        &(room, piece, answer),
+        &(room, piece, wanted),
+        "room, pieces, answer",
+    );
+    same(
+        rt,
+        &(room, piece, sink.taken().len()),
+        &(room, piece, taken),
+        "room, pieces, bytes taken",
     );
     assert!(rt; TEXT.starts_with(sink.taken()));
 }
@@ -146,9 +163,14 @@ fn see_reader(
     source: &mut StdSource<StumblingReader>,
 ) -> Result<(), Fail> {
     let answer = read_all(alloc, source, 8);
-    assert_eq!(rt; answer.err(), Some(TextFault::ReadFault));
+    same(
+        rt,
+        &answer.err(),
+        &Some(TextFault::ReadFault),
+        "a read that is interrupted",
+    );
     let rest = read_all(alloc, source, 8)?;
-    assert_eq!(rt; rest.as_slice(), b"two\n".as_slice());
+    same_bytes(rt, rest.as_slice(), b"two\n".as_slice(), "the rest");
     Ok(())
 }
 
@@ -160,9 +182,19 @@ fn a_reader_of_std_is_a_source(rt: HostRuntime) -> Result<(), Fail> {
 
 fn see_writer(rt: &impl Abort, writer: &mut StumblingWriter) {
     let mut sink = StdSink::new(writer);
-    assert_eq!(rt; write_all(&mut sink, TEXT), Err(TextFault::WriteFault));
-    assert_eq!(rt; write_all(&mut sink, TEXT), Err(TextFault::WriteFault));
-    assert_eq!(rt; write_all(&mut sink, TEXT), Ok(()));
+    same(
+        rt,
+        &write_all(&mut sink, TEXT),
+        &Err(TextFault::WriteFault),
+        "a write that fails",
+    );
+    same(
+        rt,
+        &write_all(&mut sink, TEXT),
+        &Err(TextFault::WriteFault),
+        "a write that fails",
+    );
+    same(rt, &write_all(&mut sink, TEXT), &Ok(()), "a write");
 }
 
 #[test]
@@ -172,7 +204,7 @@ fn a_writer_of_std_is_a_sink(rt: HostRuntime) {
         held: Vec::new(rt.alloc()),
     };
     see_writer(&rt, &mut writer);
-    assert_eq!(rt; writer.held.as_slice(), TEXT);
+    same_bytes(&rt, writer.held.as_slice(), TEXT, "the bytes held");
 }
 
 #[test]
@@ -180,7 +212,7 @@ fn names_keep_their_bytes(rt: HostRuntime) {
     for text in ["r", "Card_7-b", "a2345678901234567890123456789012"] {
         let word = text.as_bytes();
         match Name::read(word) {
-            Some(name) => assert_eq!(rt; name.bytes(), word),
+            Some(name) => same_bytes(&rt, name.bytes(), word, text),
             None => assert!(rt; false, "{text}"),
         }
     }
@@ -189,10 +221,9 @@ fn names_keep_their_bytes(rt: HostRuntime) {
 
 #[test]
 fn kinds_have_their_words(rt: HostRuntime) {
-    assert_eq!(rt; LimitKind::ResizeObservers.text(), "resize-observers");
-    assert_eq!(rt;
-        ThrowKind::HierarchyRequestError.text(),
-        "HierarchyRequestError"
-    );
-    assert_eq!(rt; EventKind::Resize.text(), "resize");
+    let limit = LimitKind::ResizeObservers.text();
+    let exception = ThrowKind::HierarchyRequestError.text();
+    same(&rt, &limit, &"resize-observers", "a limit");
+    same(&rt, &exception, &"HierarchyRequestError", "an exception");
+    same(&rt, &EventKind::Resize.text(), &"resize", "an event");
 }

@@ -1,5 +1,6 @@
 //! Traces judged, and judgements written.
 
+use crate::same::{same, same_bytes};
 use std::alloc::Global;
 use std::process::Abort;
 use std::test::Fail;
@@ -258,10 +259,11 @@ const LINES: [(Judgement, &str); 8] = [
 #[test]
 fn device_pixels_are_judged_with_their_line(rt: HostRuntime) {
     for (recorded, judgement) in &DEVICE_RECORDED {
-        assert_eq!(&rt;
-            judge(DEVICE_TRACE.as_bytes(), recorded.as_bytes()),
-            *judgement,
-            "at {recorded:?}"
+        same(
+            &rt,
+            &judge(DEVICE_TRACE.as_bytes(), recorded.as_bytes()),
+            judgement,
+            recorded,
         );
     }
 }
@@ -269,10 +271,11 @@ fn device_pixels_are_judged_with_their_line(rt: HostRuntime) {
 #[test]
 fn recorded_traces_differ_at_a_line_and_somehow(rt: HostRuntime) {
     for (recorded, judgement) in &RECORDED {
-        assert_eq!(&rt;
-            judge(TRACE.as_bytes(), recorded.as_bytes()),
-            *judgement,
-            "at {recorded:?}"
+        same(
+            &rt,
+            &judge(TRACE.as_bytes(), recorded.as_bytes()),
+            judgement,
+            recorded,
         );
     }
 }
@@ -280,10 +283,11 @@ fn recorded_traces_differ_at_a_line_and_somehow(rt: HostRuntime) {
 #[test]
 fn other_traces_may_be_expected(rt: HostRuntime) {
     for (expected, recorded, judgement) in &PAIRS {
-        assert_eq!(&rt;
-            judge(expected.as_bytes(), recorded.as_bytes()),
-            *judgement,
-            "at {expected:?}, {recorded:?}"
+        same(
+            &rt,
+            &judge(expected.as_bytes(), recorded.as_bytes()),
+            judgement,
+            recorded,
         );
     }
 }
@@ -305,8 +309,8 @@ fn a_recorded_trace_is_judged(rt: HostRuntime) {
 
 fn written(rt: &impl Abort, alloc: Global, judgement: &Judgement, line: &str) -> Result<(), Fail> {
     let mut sink = MemorySink::new(alloc, 100, 7, Vec::new(alloc))?;
-    assert_eq!(rt; judgement.write_to(alloc, &mut sink), Ok(()));
-    assert_eq!(rt; sink.taken(), line.as_bytes());
+    same(rt, &judgement.write_to(alloc, &mut sink), &Ok(()), line);
+    same_bytes(rt, sink.taken(), line.as_bytes(), line);
     Ok(())
 }
 
@@ -327,10 +331,12 @@ fn a_write_that_fails_leaves_a_first_part(rt: HostRuntime) -> Result<(), Fail> {
         line: 2,
         how: How::NotALine,
     };
-    assert_eq!(&rt;
-        judgement.write_to(rt.alloc(), &mut sink),
-        Err(RunFault::WriteFault)
+    same(
+        &rt,
+        &judgement.write_to(rt.alloc(), &mut sink),
+        &Err(RunFault::WriteFault),
+        "the second write fails",
     );
-    assert_eq!(&rt; sink.taken(), b"differs ".as_slice());
+    same_bytes(&rt, sink.taken(), b"differs ".as_slice(), "what is written");
     Ok(())
 }

@@ -1,5 +1,6 @@
 //! Lines over a sink that takes 4 bytes a call.
 
+use crate::same::{same, same_bytes};
 use crate::streams::sink;
 use std::alloc::Global;
 use std::process::Abort;
@@ -24,8 +25,8 @@ fn two_lines(alloc: Global, sink: &mut MemorySink) -> Result<Flow, RunFault> {
 
 fn see_lines(rt: &impl Abort, alloc: Global, sink: &mut MemorySink, row: Row) {
     let (_, result, taken) = row;
-    assert_eq!(rt; two_lines(alloc, sink), result);
-    assert_eq!(rt; sink.taken(), taken.as_bytes());
+    same(rt, &two_lines(alloc, sink), &result, taken);
+    same_bytes(rt, sink.taken(), taken.as_bytes(), taken);
 }
 
 #[test]

@@ -1,12 +1,14 @@
 //! Traces with their counts, and writes that fail.
 
+use crate::same::{same, same_bytes};
 use crate::streams::sink;
 use std::alloc::Global;
 use std::process::Abort;
 use std::test::Fail;
 use text_io::{TextFault, write_all};
+use text_lines::GatherSink;
 use trace_runs::RunFault;
-use trace_summary::{GatherSink, Summary};
+use trace_summary::Summary;
 
 /// Lines of every kind; kinds' names stand in other lines too.
 const TRACE: &str = "tick 0
@@ -60,8 +62,13 @@ fn gather(sink: &mut GatherSink, text: &str) -> Result<(), TextFault> {
 fn see_summary(rt: &impl Abort, alloc: Global, trace: &[u8]) -> Result<(), Fail> {
     let summary = Summary::of(trace)?;
     let mut output = sink(alloc, 200, 7, None)?;
-    assert_eq!(rt; summary.write_to(alloc, &mut output), Ok(()));
-    assert_eq!(rt; output.taken(), SUMMARY.as_bytes());
+    same(
+        rt,
+        &summary.write_to(alloc, &mut output),
+        &Ok(()),
+        "a summary is written",
+    );
+    same_bytes(rt, output.taken(), SUMMARY.as_bytes(), "what is written");
     Ok(())
 }
 
@@ -69,14 +76,19 @@ fn see_summary(rt: &impl Abort, alloc: Global, trace: &[u8]) -> Result<(), Fail>
 fn lines_are_counted_by_their_kinds(rt: HostRuntime) -> Result<(), Fail> {
     let mut sink = GatherSink::new(rt.alloc());
     gather(&mut sink, TRACE)?;
-    assert_eq!(rt; sink.taken(), TRACE.as_bytes());
+    same_bytes(&rt, sink.taken(), TRACE.as_bytes(), "what is gathered");
     see_summary(&rt, rt.alloc(), sink.taken())
 }
 
 #[test]
 fn a_text_without_lines_has_none(rt: HostRuntime) -> Result<(), Fail> {
     let summary = Summary::of(b"")?;
-    assert_eq!(rt; (summary.tick, summary.syntax), (0, 0));
+    same(
+        &rt,
+        &(summary.tick, summary.syntax),
+        &(0, 0),
+        "counts of no text",
+    );
     Ok(())
 }
 
@@ -91,10 +103,17 @@ fn other_texts_are_no_traces(rt: HostRuntime) {
 fn a_write_that_fails_ends_the_summary(rt: HostRuntime) -> Result<(), Fail> {
     let summary = Summary::of(b"tick 0\n")?;
     let mut output = sink(rt.alloc(), 200, 100, Some(2))?;
-    assert_eq!(rt;
-        summary.write_to(rt.alloc(), &mut output),
-        Err(RunFault::WriteFault)
+    same(
+        &rt,
+        &summary.write_to(rt.alloc(), &mut output),
+        &Err(RunFault::WriteFault),
+        "the third write fails",
     );
-    assert_eq!(rt; output.taken(), b"tick 1\ntimer 0\n".as_slice());
+    same_bytes(
+        &rt,
+        output.taken(),
+        b"tick 1\ntimer 0\n".as_slice(),
+        "what is written",
+    );
     Ok(())
 }

@@ -1,5 +1,6 @@
 //! A line of every kind at its bounds, texts that are almost lines, and whole traces.
 
+use crate::same::same_bytes;
 use crate::traces::TRACES;
 use px_units::{Point, Rect, Size};
 use std::alloc::Global;
@@ -68,7 +69,7 @@ fn comes_back(rt: &impl Abort, alloc: Global, text: &str) -> Result<(), Fail> {
     let line = read_line(text.as_bytes())?;
     let mut written = Vec::new(alloc);
     write_line(alloc, &line, &mut written)?;
-    assert_eq!(rt; written.as_slice(), text.as_bytes(), "{text}");
+    same_bytes(rt, written.as_slice(), text.as_bytes(), text);
     Ok(())
 }
 

@@ -1,5 +1,6 @@
 //! Words with what they come to, at others than those of the law `forms_at_texts`, and digits of numbers.
 
+use crate::same::{same, same_bytes};
 use std::test::Fail;
 use word_model::{
     is_decimal_with, is_name, length, number, percent, push_decimal, signed_length, signed_percent,
@@ -61,18 +62,14 @@ const ROWS: [Row; 23] = [
 fn words_have_their_forms(rt: HostRuntime) {
     for (text, whole_read, units, hundredths, ten_thousandths, decimal) in ROWS {
         let word = text.as_bytes();
-        assert_eq!(rt; whole(word), whole_read, "{text} as a whole number");
-        assert_eq!(rt; signed_length(word), units, "{text} as a length");
-        assert_eq!(rt; signed_percent(word), hundredths, "{text} as a percentage");
-        assert_eq!(rt; number(word), ten_thousandths, "{text} as a number");
-        assert_eq!(rt;
-            is_decimal_with(b"px", word),
-            decimal,
-            "{text} as a decimal with px"
-        );
+        same(&rt, &whole(word), &whole_read, text);
+        same(&rt, &signed_length(word), &units, text);
+        same(&rt, &signed_percent(word), &hundredths, text);
+        same(&rt, &number(word), &ten_thousandths, text);
+        same(&rt, &is_decimal_with(b"px", word), &decimal, text);
     }
-    assert_eq!(rt; length(b"99.99px"), Some(6399)); // cut from 6,399.36 units
-    assert_eq!(rt; percent(b"12.5%"), Some(1250)); // hundredths
+    same(&rt, &length(b"99.99px"), &Some(6399), "99.99px"); // cut from 6,399.36 units
+    same(&rt, &percent(b"12.5%"), &Some(1250), "12.5%"); // hundredths
 }
 
 #[test]
@@ -89,7 +86,7 @@ fn names_begin_with_a_letter(rt: HostRuntime) {
         ("abcdefghijklmnopqrstuvwxyz0123456", false),
     ];
     for (text, want) in rows {
-        assert_eq!(rt; is_name(text.as_bytes()), want, "{text}");
+        same(&rt, &is_name(text.as_bytes()), &want, text);
     }
 }
 
@@ -98,9 +95,11 @@ fn numbers_are_appended(rt: HostRuntime) -> Result<(), Fail> {
     let mut out = Vec::new(rt.alloc());
     push_decimal(&mut out, 0)?;
     push_decimal(&mut out, 340282366920938463463374607431768211455)?;
-    assert_eq!(rt;
+    same_bytes(
+        &rt,
         out.as_slice(),
-        b"0340282366920938463463374607431768211455".as_slice()
+        b"0340282366920938463463374607431768211455".as_slice(),
+        "0 and the greatest number",
     );
     Ok(())
 }

@@ -1,7 +1,7 @@
 -- A source up to its first line `trace`.
 use Rattle.std.proofs.Common.{◌≡◌, ◌∙◌, refl, sym, ap, subst, ◌⊎◌, inl, inr, ℕ, suc, ◌+◌, ◌<◌, Bool, true, false, cond, not, List, [], ◌∷◌, ◌++◌, length, take, drop, arith, append_assoc}
 use Rattle.std.specs.List.{concat}
-use Rattle.trace_summary.specs.Lines.{first_line, behind_line}
+use Rattle.text_lines.specs.Lines.{first_line, behind_line}
 use Rattle.trace_judge.specs.Lines.{lines_of}
 use Rattle.trace_judge.specs.Recordings.{is_divider, script_lines, script_of, trace_of}
 use Rattle.trace_judge.proofs.Splits.{lines_by_first, lines_make}

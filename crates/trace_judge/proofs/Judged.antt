@@ -4,8 +4,8 @@ use Rattle.std.specs.Prelude.{bytes_eq, nat_eq, ◌==◌}
 use Rattle.std.specs.List.{common_prefix_len, prefix_len, zip, concat}
 use Rattle.std.proofs.lemmas.Bool.{true≢false, false≢true, false_from_ne_true}
 use Rattle.std.proofs.lemmas.Slice.Eq.{bytes_eq-Decides}
-use Rattle.trace_summary.specs.Lines.{first_line, behind_line}
-use Rattle.trace_summary.proofs.Splits.{behind_shorter}
+use Rattle.text_lines.specs.Lines.{first_line, behind_line}
+use Rattle.text_lines.proofs.Splits.{behind_shorter}
 use Rattle.trace_judge.specs.declared.judgement.How.{How}
 use Rattle.trace_judge.specs.declared.judgement.How.TheVariants.{Extra, Missing}
 use Rattle.trace_judge.specs.declared.judgement.Judgement.{Judgement}

@@ -2,7 +2,7 @@
 use Rattle.std.proofs.Common.{◌≡◌, refl, ap, ℕ, ◌<◌, ◌≤◌, Bool, true, false, cond, List, [], ◌∷◌, length, arith}
 use Rattle.std.specs.Prelude.{◌==◌}
 use Rattle.std.specs.List.{concat}
-use Rattle.trace_summary.specs.Lines.{first_line, behind_line}
+use Rattle.text_lines.specs.Lines.{first_line, behind_line}
 use Rattle.trace_judge.specs.Lines.{before_lines, lines_of}
 
 by_feed : (feed : Bool) (b : ℕ) (bs : List ℕ) → (0 < length bs → lines_of bs ≡ first_line bs ∷ lines_of (behind_line bs))

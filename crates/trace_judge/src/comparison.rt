@@ -6,7 +6,7 @@ ghost use Rattle.trace_judge.specs.Lines.{is_trace_line};
 ghost use Rattle.trace_judge.specs.Judging.{how_lines_differ, judgement};
 
 use crate::judgement::{How, Judgement};
-use trace_summary::split_line;
+use text_lines::split_line;
 use trace_text::read_line;
 
 fn is_trace_line(line: &[u8]) -> bool

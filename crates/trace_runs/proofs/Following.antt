@@ -8,10 +8,10 @@ use Rattle.page_model.specs.Runs.{Said, Flow, Next, Thrown, Limited, say, silent
 use Rattle.trace_runs.specs.declared.faults.RunFault.{RunFault}
 use Rattle.trace_runs.specs.declared.faults.RunFault.TheVariants.{Limit, Memory, WriteFault}
 use Rattle.trace_runs.specs.Runs.{Runs}
-use Rattle.trace_runs.specs.Writes.{AppendsPart, FailsWithin, Says, Told}
+use Rattle.trace_runs.specs.Writes.{AppendsLines, FailsWithin, Says, Told}
 use Rattle.trace_runs.proofs.Lines.{bytes_both, says_none, says_both}
 use Rattle.trace_runs.proofs.Runs.{behind_run, run_same, cut_as, ended_as, memory_run, silent_run, say_run, unsaid_run}
-use Rattle.trace_runs.proofs.Writes.{part_begins, failure_begins}
+use Rattle.trace_runs.proofs.Writes.{lines_begin, failure_begins}
 
 -- what was written so far, no write failed, and both the lines so far and the rest make the whole
 pub record Following {S : Type 0} (before now : Option (List ℕ)) (faults faults_now : ℕ) (whole rest : Said S) : Type 0 where
@@ -55,12 +55,12 @@ pub followed_more : {S : Type 0} (said : Said S) (rest : S → Said S) → (more
 unfolding ◌followed_by◌
 followed_more said rest = follow-more (said.flow) rest said
 
--- and so does a first part of their text
-part_of_all : {S : Type 0} {before after : Option (List ℕ)} (said : Said S) (rest : S → Said S) → AppendsPart before after (bytes_of said.lines)
-    → AppendsPart before after (bytes_of (said followed_by rest).lines)
-part_of_all {before = before} {after} said rest part =
+-- and so do the first of them
+lines_of_all : {S : Type 0} {before after : Option (List ℕ)} (said : Said S) (rest : S → Said S) → AppendsLines before after (bytes_of said.lines)
+    → AppendsLines before after (bytes_of (said followed_by rest).lines)
+lines_of_all {before = before} {after} said rest part =
     let more = followed_more said rest in
-    subst (λ (t : List ℕ). AppendsPart before after t) (bytes_both (said.lines) more.0 ∙ sym (ap bytes_of more.1)) (part_begins (bytes_of more.0) part)
+    subst (λ (t : List ℕ). AppendsLines before after t) (bytes_both (said.lines) more.0 ∙ sym (ap bytes_of more.1)) (lines_begin (bytes_of more.0) part)
 
 failure_in_all : {S : Type 0} {before after : Option (List ℕ)} {f g : ℕ} (said : Said S) (rest : S → Said S) → FailsWithin before after f g (bytes_of said.lines)
     → FailsWithin before after f g (bytes_of (said followed_by rest).lines)
@@ -81,7 +81,7 @@ pub cut_run : {A B S : Type 0} {flow : A → Flow} {state : S} {flow' : B → Fl
     → Runs flow state (Err fault) before after f g said → Runs flow' state (Err fault) before after f g (said followed_by rest)
 cut_run (Limit kind line number) rest run =
     run_same (sym (followed_limited _ rest run.cut_off.flow_is)) (cut_as (Limit kind line number) refl (λ limited. limited) (λ reached. reached) run)
-cut_run Memory {said = said} rest run = record { ended = tt; cut_off = (part_of_all said rest run.cut_off.0, run.cut_off.1) }
+cut_run Memory {said = said} rest run = record { ended = tt; cut_off = (lines_of_all said rest run.cut_off.0, run.cut_off.1) }
 cut_run WriteFault {said = said} rest run = record { ended = tt; cut_off = failure_in_all said rest run.cut_off }
 
 -- lines whose writing was cut off, before others
@@ -95,7 +95,7 @@ pub lifted_cut : {A B S R : Type 0} {flow : A → Flow} {state : R} {flow' : B �
 lifted_cut change (Limit kind line number) {said = said} rest run =
     run_same (ap (lifted change) (sym (followed_limited said rest run.cut_off.flow_is)))
     (cut_as (Limit kind line number) refl (λ limited. limited) (λ reached. reached) run)
-lifted_cut change Memory {said = said} rest run = record { ended = tt; cut_off = (part_of_all said rest run.cut_off.0, run.cut_off.1) }
+lifted_cut change Memory {said = said} rest run = record { ended = tt; cut_off = (lines_of_all said rest run.cut_off.0, run.cut_off.1) }
 lifted_cut change WriteFault {said = said} rest run = record { ended = tt; cut_off = failure_in_all said rest run.cut_off }
 
 -- a step threw

@@ -10,9 +10,9 @@ use Rattle.trace_runs.specs.declared.faults.Flow.{Flow}
 use Rattle.trace_runs.specs.declared.faults.Flow.TheVariants.{Next, Thrown}
 use Rattle.trace_runs.specs.Flows.{flow_of, goes_on}
 use Rattle.trace_runs.specs.Runs.{CutOff, Runs}
-use Rattle.trace_runs.specs.Writes.{AppendsPart, FailsWithin, Says, Told}
-use Rattle.trace_runs.proofs.Lines.{bytes_both, says_none, says_both}
-use Rattle.trace_runs.proofs.Writes.{no_part, part_behind, failure_behind}
+use Rattle.trace_runs.specs.Writes.{AppendsLines, FailsWithin, Says, Told}
+use Rattle.trace_runs.proofs.Lines.{bytes_both, lines_end, says_none, says_both}
+use Rattle.trace_runs.proofs.Writes.{no_line, lines_behind, failure_behind}
 
 -- the same step in other words
 pub run_same : {A S : Type 0} {flow : A → Going} {state : S} {result : Result A RunFault} {before after : Option (List ℕ)} {f g : ℕ} {said other : Said S}
@@ -29,7 +29,7 @@ silent_run {now = now} goes = record {
 
 -- no memory was left before anything was written
 pub memory_run : {A S : Type 0} {flow : A → Going} {state : S} {now : Option (List ℕ)} {f : ℕ} (said : Said S) → Runs flow state (Err Memory) now now f f said
-memory_run {now = now} said = record { ended = tt; cut_off = (no_part now (bytes_of (said.lines)), refl) }
+memory_run {now = now} said = record { ended = tt; cut_off = (no_line now (bytes_of (said.lines)), refl) }
 
 -- the lines of a step
 pub lines_run : {A S : Type 0} {flow : A → Going} {state : S} (result : Result A RunFault) {before after : Option (List ℕ)} {f g : ℕ} {said : Said S}
@@ -67,7 +67,7 @@ behind_cut (Limit kind line number) state before mid after f fm g part said firs
   state_is = cut.state_is;
 }
 behind_cut Memory state before mid after f fm g part said first unfailed cut =
-    (subst (λ (t : List ℕ). AppendsPart before after t) (bytes_both part (said.lines)) (part_behind before (bytes_of part) first.written cut.0), cut.1 ∙ unfailed)
+    (subst (λ (t : List ℕ). AppendsLines before after t) (bytes_both part (said.lines)) (lines_behind before (bytes_of part) (lines_end part) first.written cut.0), cut.1 ∙ unfailed)
 behind_cut WriteFault state before mid after f fm g part said first unfailed cut =
     subst (λ (t : List ℕ). FailsWithin before after f g t) (bytes_both part (said.lines)) (failure_behind before f (bytes_of part) first.written unfailed cut)
 
@@ -101,7 +101,7 @@ cut_as (Limit kind line number) lines limited reached run = record {
   };
 }
 cut_as Memory {before} {after} lines limited reached run =
-    record { ended = tt; cut_off = (subst (λ (l : List TraceLine). AppendsPart before after (bytes_of l)) lines run.cut_off.0, run.cut_off.1) }
+    record { ended = tt; cut_off = (subst (λ (l : List TraceLine). AppendsLines before after (bytes_of l)) lines run.cut_off.0, run.cut_off.1) }
 cut_as WriteFault {before} {after} {f} {g} lines limited reached run =
     record { ended = tt; cut_off = subst (λ (l : List TraceLine). FailsWithin before after f g (bytes_of l)) lines run.cut_off }
 

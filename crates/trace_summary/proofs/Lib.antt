@@ -1,4 +1,3 @@
-pub mod Splits
 pub mod Counting
 pub mod Traces
 pub mod Rows

@@ -8,10 +8,10 @@ use Rattle.std.specs.Prelude.{flat_map, Ok, Err}
 use Rattle.std.specs.Io.KnownBytes.{Appends}
 use Rattle.trace_runs.specs.declared.faults.RunFault.{RunFault}
 use Rattle.trace_runs.specs.declared.faults.RunFault.TheVariants.{Limit, Memory, WriteFault}
-use Rattle.trace_runs.specs.Writes.{AppendsPart, FailsWithin, Wrote}
+use Rattle.trace_runs.specs.Writes.{AppendsLines, EndsLine, FailsWithin, Wrote}
 use Rattle.word_model.specs.Numbers.{decimal}
 use Rattle.trace_summary.specs.Counts.{row_text, text_of}
-use Rattle.trace_runs.proofs.Writes.{nothing, both, part_begins, part_behind, failure_begins, failure_behind}
+use Rattle.trace_runs.proofs.Writes.{nothing, both, ends_both, ends_feed, lines_begin, lines_behind, failure_begins, failure_behind}
 
 -- a first part of a text was written, no write failed, and the rest follows
 pub record Writing (before now : Option (List ℕ)) (faults faults_now : ℕ) (whole rest : List ℕ) : Type 0 where
@@ -23,12 +23,12 @@ pub record Writing (before now : Option (List ℕ)) (faults faults_now : ℕ) (w
 pub writing_none : (now : Option (List ℕ)) (faults : ℕ) (whole : List ℕ) → Writing now now faults faults whole whole
 writing_none now faults whole = record { part = []; makes = refl; written = nothing now; unfailed = refl }
 
-pub writing_cut : (fault : RunFault) (before mid after : Option (List ℕ)) (f fm g : ℕ) (whole text rest : List ℕ) → Writing before mid f fm whole (text ++ rest)
+pub writing_cut : (fault : RunFault) (before mid after : Option (List ℕ)) (f fm g : ℕ) (whole text rest : List ℕ) → (here : Writing before mid f fm whole (text ++ rest)) → EndsLine here.part
     → Wrote {A = Unit {0}} (Err fault) mid after fm g text → Wrote {A = Unit {0}} (Err fault) before after f g whole
-writing_cut (Limit kind line number) before mid after f fm g whole text rest here wrote = absurd wrote
-writing_cut Memory before mid after f fm g whole text rest here wrote =
-    (subst (λ (t : List ℕ). AppendsPart before after t) here.makes (part_behind before here.part here.written (part_begins rest wrote.0)), wrote.1 ∙ here.unfailed)
-writing_cut WriteFault before mid after f fm g whole text rest here wrote =
+writing_cut (Limit kind line number) before mid after f fm g whole text rest here lines wrote = absurd wrote
+writing_cut Memory before mid after f fm g whole text rest here lines wrote =
+    (subst (λ (t : List ℕ). AppendsLines before after t) here.makes (lines_behind before here.part lines here.written (lines_begin rest wrote.0)), wrote.1 ∙ here.unfailed)
+writing_cut WriteFault before mid after f fm g whole text rest here lines wrote =
     subst (λ (t : List ℕ). FailsWithin before after f g t) here.makes (failure_behind before f here.part here.written here.unfailed (failure_begins rest wrote))
 
 -- rows, each a kind and its count
@@ -54,6 +54,15 @@ unfolding row_text
 row_pushed kind count first second third whole a b c d =
     d ∙ ap (λ text. text ++ (10 ∷ [])) (c ∙ ap (λ text. text ++ decimal count) (b ∙ ap (λ text. text ++ (32 ∷ [])) a) ∙ append_assoc kind (32 ∷ []) (decimal count))
 
+-- each row is a line
+row_ends : (kind : List ℕ) (count : ℕ) → EndsLine (row_text kind count)
+unfolding row_text
+row_ends kind count = ends_feed (kind ++ (32 ∷ decimal count))
+
+texts_end : (rows : List Row) → EndsLine (texts rows)
+texts_end [] = tt
+texts_end (r ∷ rows) = ends_both (row_of r) (texts rows) (row_ends (r.0.now) (r.1)) (texts_end rows)
+
 -- the first rows were written, and no write failed
 pub record WroteRows (before now : Option (List ℕ)) (faults faults_now : ℕ) (rows : List Row) (place : ℕ) : Type 0 where
   pub written : Appends before now (texts (take place rows))
@@ -78,22 +87,22 @@ rows_more {before} {mid} {after} rows place none within here wrote = record {
         ∙ flat_map-append row_of (take place rows) (row ∷ [])
         ∙ ap (λ t. texts (take place rows) ++ t) (append-nil (row_of row))
 
--- what was written of all rows
-writing_rows : {before now : Option (List ℕ)} {f g : ℕ} (rows : List Row) (place : ℕ) → WroteRows before now f g rows place
-    → Writing before now f g (texts rows) (texts (drop place rows))
-writing_rows rows place here = record {
-  part = texts (take place rows);
-  makes = sym (flat_map-append row_of (take place rows) (drop place rows)) ∙ ap texts (take-append-drop place rows);
-  written = here.written;
-  unfailed = here.unfailed;
-}
+-- the first rows and those behind them
+rows_both : (rows : List Row) (place : ℕ) → texts (take place rows) ++ texts (drop place rows) ≡ texts rows
+rows_both rows place = sym (flat_map-append row_of (take place rows) (drop place rows)) ∙ ap texts (take-append-drop place rows)
 
 pub row_cut : (fault : RunFault) (before mid after : Option (List ℕ)) (f fm g : ℕ) (rows : List Row) (place : ℕ) (none : Row) → place < length rows
     → WroteRows before mid f fm rows place → Wrote {A = Unit {0}} (Err fault) mid after fm g (row_of (get_or rows place none))
     → Wrote {A = Unit {0}} (Err fault) before after f g (texts rows)
 row_cut fault before mid after f fm g rows place none within here wrote =
     writing_cut fault before mid after f fm g (texts rows) (row_of (get_or rows place none)) (texts (drop (place + 1) rows))
-    (subst (λ (t : List ℕ). Writing before mid f fm (texts rows) t) (texts_more rows place none within) (writing_rows rows place here))
+    (record {
+      part = texts (take place rows);
+      makes = ap (λ (t : List ℕ). texts (take place rows) ++ t) (sym (texts_more rows place none within)) ∙ rows_both rows place;
+      written = here.written;
+      unfailed = here.unfailed;
+    })
+    (texts_end (take place rows))
     wrote
 
 pub rows_written : {before now : Option (List ℕ)} {f g : ℕ} (rows : List Row) (place : ℕ) → length rows ≤ place

@@ -8,12 +8,12 @@ use Rattle.script_model.specs.TraceLines.{TraceLine}
 use Rattle.script_model.specs.TraceText.{line_text}
 use Rattle.page_model.specs.Outcome.{bytes_of}
 use Rattle.trace_text.specs.Ranges.{IsLine}
-use Rattle.trace_summary.specs.Lines.{first_line, behind_line}
+use Rattle.text_lines.specs.Lines.{first_line, behind_line}
 use Rattle.trace_summary.specs.Counts.{IsTrace, summary_of}
 use Rattle.trace_summary.specs.Counting.{with_line, HasRoom}
 use Rattle.trace_summary.specs.declared.summary.Summary.{Summary}
 use Rattle.trace_summary.proofs.Counting.{one_counted, room_for_one}
-use Rattle.trace_summary.proofs.Splits.{first_fed, behind_fed, line_splits}
+use Rattle.text_lines.proofs.Splits.{first_fed, behind_fed, line_splits}
 
 -- a line's text has one line feed, at its end
 abbrev pub FeedLaw : Type 0

@@ -1,4 +1,2 @@
-pub mod Gathered
-pub mod Lines
 pub mod Counts
 pub mod Counting

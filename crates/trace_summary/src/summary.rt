@@ -10,9 +10,9 @@ ghost use Rattle.trace_runs.specs.Writes.{Wrote};
 ghost use Rattle.trace_summary.specs.Counting.{HasRoom, with_line};
 ghost use Rattle.trace_summary.specs.Counts.{IsTrace, summary_of, row_text, rows_of, rows_text, text_of};
 
-use crate::lines::split_line;
 use std::alloc::{AllocError, Global};
 use text_io::Sink;
+use text_lines::split_line;
 use trace_runs::{RunFault, write_text};
 use trace_text::{TraceFault, TraceLine, line_ends_once, read_line};
 use word_model::push_decimal;

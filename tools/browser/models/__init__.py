@@ -8,4 +8,5 @@ import sys
 
 sys.path.insert(0, os.path.dirname(os.path.dirname(os.path.dirname(os.path.abspath(__file__)))))
 
-from .classes import CLASSES, alike, by_rules, classes_of, orders, run
+from .classes import CLASSES, alike, by_rules, classes_of, given, orders, run
+from .model import Model

@@ -37,7 +37,7 @@ class Anchors:
     def scrolled_in(self, document):
         """What is scrolled in a document and has a box."""
         layout = self.model.world.layout
-        if document.scroll[1] and (document.frame is None or layout.has_box(document.frame)):
+        if document.scroll[1] and (document.frame is None or layout.shows(document)):
             yield document
         for node in layout._boxes_of(document):
             if node.scroll[1] and layout.scrolls(node):

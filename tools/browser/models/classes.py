@@ -8,34 +8,34 @@ from reference.page import Page
 
 from .model import Model
 from .traits import (ANCHORS_BEFORE_LAYOUT, BEGIN_IS_THERE, CALLBACKS_OF_THE_STEP, CROSSED_IS_TURNED, DEAD_READS_THROW,
-                     DEAD_ROOTS_OF_A_LIST, EDGES_REACH_OUT, EMPTY_PAGES_LAY_OUT, EMPTY_ROOTS_COUNT_NOTHING, EVENTS_GO_WITH_BOXES,
-                     EVERY_ROOT, FIRST_USE_COUNTS, FRAMES_BEGIN_AS_THEY_COME, FRAMES_IN_TIME, FRAMES_LAY_OUT, FRAMES_WAIT,
-                     HIDDEN_READS_NOTHING, IMPLICIT_ROOT, LATE_SCROLLS, LENGTHS_ARE_CUT, LENGTHS_ARE_FLOORED, NOTHING_FOR_DETACHED,
-                     ONE_PIXEL_AT_LEAST, PERCENTAGES_ARE_CUT, PLACED_AS_ROUNDS_BEGIN, QUERIES_IN_UPDATE, QUEUES_WAIT, ROOTS_GO_AWAY,
-                     ROOT_MARGINS_COUNT, SCROLLING_ROOT_UNTOLD, SCROLLS_ARE_CUT, SIZES_OF_GATHERING, TIMERS_LAY_OUT,
-                     WINDOWS_READ_AT_ONCE)
+                     DEAD_ROOTS_OF_A_LIST, DEVICE_PIXELS_ARE_LAID_OUT, EDGES_REACH_OUT, EMPTY_BOXES_REACH_DOWN, EMPTY_PAGES_LAY_OUT,
+                     EMPTY_ROOTS_COUNT_NOTHING, EVENTS_GO_WITH_BOXES, EVERY_ROOT, FIRST_USE_COUNTS, FRAMES_BEGIN_AS_THEY_COME,
+                     FRAMES_FOLLOW_A_RATIO, FRAMES_IN_TIME, FRAMES_LAY_OUT, FRAMES_WAIT, HIDDEN_READS_NOTHING, IMPLICIT_ROOT, LATE_SCROLLS,
+                     LENGTHS_ARE_CUT, LENGTHS_ARE_FLOORED, NOTHING_FOR_DETACHED, ONE_PIXEL_AT_LEAST, PERCENTAGES_ARE_CUT,
+                     PLACED_AS_ROUNDS_BEGIN, QUERIES_IN_UPDATE, QUEUES_WAIT, ROOTS_GO_AWAY, ROOT_MARGINS_COUNT, SCROLLING_ROOT_UNTOLD,
+                     SCROLLS_ARE_CUT, SIZES_OF_GATHERING, TIMERS_LAY_OUT, WINDOWS_READ_AT_ONCE)
 
 ALL_THREE = frozenset('''border-widths read-of-dead-frame hidden-frame-keeps-size frame-of-part-pixels reach-of-empty-boxes
     reach-with-margins reach-with-padding scroll-of-part-pixels observe-again first-size offset-of-moved-box frame-order stored-offset
     sizes-of-last-layout shrink-to-fit root-removed root-rectangle-of-none is-intersecting margin-percentages
-    scroll-margin-percentages scroll-margin-of-viewports scroll-margin-of-root'''.split())
-CHROMIUM = ALL_THREE | {ANCHORS_BEFORE_LAYOUT, EMPTY_PAGES_LAY_OUT, LATE_SCROLLS, LENGTHS_ARE_FLOORED, NOTHING_FOR_DETACHED,
+    scroll-margin-percentages scroll-margin-of-viewports scroll-margin-of-root positioned-root viewport-of-part-pixels'''.split())
+CHROMIUM = ALL_THREE | {ANCHORS_BEFORE_LAYOUT, DEVICE_PIXELS_ARE_LAID_OUT, EMPTY_PAGES_LAY_OUT, LATE_SCROLLS, LENGTHS_ARE_FLOORED, NOTHING_FOR_DETACHED,
                         ONE_PIXEL_AT_LEAST, PERCENTAGES_ARE_CUT, PLACED_AS_ROUNDS_BEGIN, ROOTS_GO_AWAY, ROOT_MARGINS_COUNT,
                         SCROLLING_ROOT_UNTOLD} | set('''
-    scroll-anchoring scroll-of-hidden-frame unobserve-in-delivery queue-after-unobserve
+    event-of-idle-document ratio-scroll-event scroll-anchoring scroll-of-hidden-frame unobserve-in-delivery queue-after-unobserve
     listener-of-adopted-element frame-callback-late rounds-by-turns depth-at-gathering skipped-then-cured dead-frame-target
     target-of-dead-frame observers-in-any-order margin-of-part-pixels crossed-root cut-in-a-frame told-of-dead-root
     entries-of-dead-document ratio-resize-event device-pixels-by-place lengths-at-a-ratio'''.split())
 FIREFOX = ALL_THREE | {ANCHORS_BEFORE_LAYOUT, CALLBACKS_OF_THE_STEP, DEAD_READS_THROW, EMPTY_ROOTS_COUNT_NOTHING,
-                       EVENTS_GO_WITH_BOXES, FRAMES_BEGIN_AS_THEY_COME, FRAMES_LAY_OUT, FRAMES_WAIT, HIDDEN_READS_NOTHING,
+                       EVENTS_GO_WITH_BOXES, FRAMES_BEGIN_AS_THEY_COME, FRAMES_FOLLOW_A_RATIO, FRAMES_LAY_OUT, FRAMES_WAIT, HIDDEN_READS_NOTHING,
                        IMPLICIT_ROOT, NOTHING_FOR_DETACHED, QUERIES_IN_UPDATE, QUEUES_WAIT, SCROLLS_ARE_CUT, WINDOWS_READ_AT_ONCE} | set('''
-    scroll-anchoring hidden-document-waits ratio-resize-event device-pixels-by-place queue-after-unobserve
+    replaced-root scroll-anchoring hidden-document-waits ratio-resize-event device-pixels-by-place queue-after-unobserve
     listener-of-adopted-element frame-callback-late told-of-dead-root told-by-own-document resize-observers-by-use
     intersection-observers-by-use lengths-at-a-ratio depth-with-document frame-made-anew'''.split())
-WEBKIT = ALL_THREE | {BEGIN_IS_THERE, CROSSED_IS_TURNED, DEAD_ROOTS_OF_A_LIST, EDGES_REACH_OUT, EMPTY_ROOTS_COUNT_NOTHING,
+WEBKIT = ALL_THREE | {BEGIN_IS_THERE, CROSSED_IS_TURNED, DEAD_ROOTS_OF_A_LIST, EDGES_REACH_OUT, EMPTY_BOXES_REACH_DOWN, EMPTY_ROOTS_COUNT_NOTHING,
                       EVERY_ROOT, FIRST_USE_COUNTS, FRAMES_IN_TIME, LENGTHS_ARE_CUT, QUERIES_IN_UPDATE, SCROLLS_ARE_CUT,
                       SIZES_OF_GATHERING, TIMERS_LAY_OUT, WINDOWS_READ_AT_ONCE} | set('''
-    depth-at-gathering crossed-root entries-before-tasks told-in-the-update margin-of-part-pixels scroll-margin-below-a-root
+    depth-with-frames root-at-content-box zero-without-unit depth-at-gathering crossed-root entries-before-tasks told-in-the-update margin-of-part-pixels scroll-margin-below-a-root
     queries-of-empty-page resize-observers-by-use intersection-observers-by-use boxes-in-a-hidden-frame disconnected-as-root-ends
     told-of-dead-root clips-of-border-boxes callback-out-of-view static-place-read cut-in-a-frame'''.split())
 CLASSES = {'chromium': CHROMIUM, 'firefox': FIREFOX, 'webkit': WEBKIT}
@@ -112,8 +112,13 @@ def near(line, other, engine):
         return True
     if NUMBER.sub('#', line) != NUMBER.sub('#', other) or engine == 'webkit' and not line.startswith('intersect '):
         return False
-    return all(abs(number(one) - number(two)) <= (NEAR[engine] if '/' not in one else 0.01)
-               for one, two in zip(NUMBER.findall(line), NUMBER.findall(other)))
+    ours, theirs = line.partition(' device '), other.partition(' device ')
+    # A rounded number of device pixels may be another one.
+    if engine == 'firefox' and any(abs(number(one) - number(two)) > 1 for one, two in zip(ours[2].split(), theirs[2].split())):
+        return False
+    return (engine == 'firefox' or ours[2] == theirs[2]) and all(
+        abs(number(one) - number(two)) <= (NEAR[engine] if '/' not in one else 0.01)
+        for one, two in zip(NUMBER.findall(ours[0]), NUMBER.findall(theirs[0])))
 
 
 def number(text):
@@ -128,6 +133,11 @@ def orders(text, engine, told):
     if engine == 'firefox' and 1 < len(names) < 6:
         for order in itertools.permutations(names):
             yield {name: place for place, name in enumerate(order)}
+
+
+def given(text, engine, told):
+    """Whether the model of an engine gives a trace."""
+    return any(gives(text, CLASSES[engine], told, engine, order) for order in orders(text, engine, told))
 
 
 def classes_of(text, engine, told):

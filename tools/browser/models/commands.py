@@ -1,15 +1,20 @@
 """Commands that an engine runs differently, or that cause layout."""
+import re
+
 from reference import trace
 from reference.commands import EFFECTS
 from reference.media import matches
 from reference.refusals import Throw
 from reference.world import ACTIVE, Document, Element, preorder, tree_document
 
-from .layout import FIRST_FRAME, ONE, PIXEL, whole
+from .layout import FIRST_FRAME, ONE, PIXEL, in_units, whole, whole_window
 from .rounds import NEVER
-from .traits import (BEGIN_IS_THERE, DEAD_READS_THROW, FIRST_USE_COUNTS, FRAMES_BEGIN_AS_THEY_COME, FRAMES_IN_TIME, HIDDEN_READS_NOTHING,
-                     NOTHING_FOR_DETACHED, QUEUES_WAIT, SCROLLS_ARE_CUT, WINDOWS_READ_AT_ONCE)
+from .traits import (BEGIN_IS_THERE, DEAD_READS_THROW, DEVICE_PIXELS_ARE_LAID_OUT, FIRST_USE_COUNTS, FRAMES_BEGIN_AS_THEY_COME,
+                     FRAMES_FOLLOW_A_RATIO, FRAMES_IN_TIME, HIDDEN_READS_NOTHING, NOTHING_FOR_DETACHED, QUEUES_WAIT, SCROLLS_ARE_CUT,
+                     WINDOWS_READ_AT_ONCE)
 
+# A zero without a unit, as a part of a margin.
+NO_LENGTH = re.compile(rb'^-?0+(\.0+)?$')
 SCROLLING = ('hidden', 'scroll', 'auto')
 # The property with which the tool sets each field when it creates an element: setting it with another one is a change, whatever the value.
 GIVEN = dict([(name, name) for name in ('display', 'box-sizing', 'min-width', 'min-height')] + [
@@ -22,17 +27,34 @@ class Commands:
     def do_viewport(self, command, width, height):
         EFFECTS['viewport'](self, command, width, height)
         if self.began:
-            self.learns(self.world.top, (width, height))
+            self.learns(self.world.top, whole_window((width, height)))
             self.lay_out(self.world.top)
 
     def do_ratio(self, command, hundredths):
-        changes = hundredths != self.world.pixel_ratio
+        changes, is_less = hundredths != self.world.pixel_ratio, hundredths < self.world.pixel_ratio
         EFFECTS['ratio'](self, command, hundredths)
         if changes:
             self.world.changed()
         if changes and self.began and self.differs('ratio-resize-event'):
-            self.resized.add(self.world.top)
-            self.rescaled = True
+            self.rescaled = {document for document in self.documents_in_order() if document.frame is None or (
+                document in self.known and self.world.layout.shows(document))}
+            self.resized |= self.rescaled
+            if self.has(FRAMES_FOLLOW_A_RATIO):
+                # A lower ratio makes frames larger, until the page around them is laid out.
+                self.lowered = self.rescaled - {self.world.top} if is_less else set()
+            if self.has('ratio-scroll-event'):
+                self.lay_out_all()
+                self.scroll_by_ratio()
+
+    def scroll_by_ratio(self):
+        """What is scrolled is scrolled again, to whole device pixels."""
+        for document in self.documents_in_order():
+            for thing in list(self.anchors.scrolled_in(document)):
+                self.differs('ratio-scroll-event')
+                thing.scroll = self._whole_position(*thing.scroll)
+                if thing not in document.pending_scrolls:
+                    document.pending_scrolls.append(thing)
+        self.world.scrolled()
 
     def kept_size(self, document):
         """The viewport's size of a document whose frame has no box."""
@@ -46,8 +68,10 @@ class Commands:
         self.lay_out_for_reading(thing)
         layout = self.world.layout
         if isinstance(thing, Document) and self.world.pixel_ratio != ONE:
-            # A window gives its size in whole pixels.
-            units = (0, 0) + tuple(map(whole, layout.viewport(thing))) + layout.document_offset(thing)
+            # A window gives its size in whole pixels: that of a page rounded, that of a frame maybe truncated.
+            is_cut = thing.frame is not None and self.has(DEVICE_PIXELS_ARE_LAID_OUT)
+            sides = [side // PIXEL * PIXEL if is_cut else whole(side) for side in layout.viewport(thing)]
+            units = (0, 0) + tuple(sides) + layout.document_offset(thing)
             self.tell(trace.read_line(thing.name, units))
         else:
             EFFECTS['read'](self, command, thing)
@@ -194,7 +218,11 @@ class Commands:
             self.hidden[document] = True
 
     def _whole_position(self, left, top):
-        rounded = (left // PIXEL * PIXEL, top // PIXEL * PIXEL) if self.has(SCROLLS_ARE_CUT) else (whole(left), whole(top))
+        """A position in whole device pixels."""
+        ratio = self.world.pixel_ratio
+        pixels = [units * ratio // (PIXEL * ONE) if self.has(SCROLLS_ARE_CUT) else (units * ratio + PIXEL * ONE // 2) // (PIXEL * ONE)
+                  for units in (left, top)]
+        rounded = tuple([in_units(number, ratio) for number in pixels])
         return rounded if rounded != (left, top) and self.differs('scroll-of-part-pixels') else (left, top)
 
     def do_ro(self, command, name, document, handler):
@@ -238,6 +266,12 @@ class Commands:
         if observer in self.tool_saw:
             self.tool_saw[observer] = {}
 
+    def do_io(self, command, name, document, handler, root, margin, scroll_margin, thresholds):
+        margins = [text and b' '.join([NO_LENGTH.sub(b'0px', word) for word in text.split(b' ')]) for text in (margin, scroll_margin)]
+        if margins != [margin, scroll_margin] and self.differs('zero-without-unit'):
+            margin, scroll_margin = margins
+        EFFECTS['io'](self, command, name, document, handler, root, margin, scroll_margin, thresholds)
+
     def do_io_observe(self, command, observer, node):
         if not observer.registrations:
             self.comes_last(observer)
@@ -266,7 +300,7 @@ class Commands:
         EFFECTS['io-disconnect'](self, command, observer)
 
     def do_io_take(self, command, observer):
-        observer.queue = self._now(self._as_told(observer.queue, 1))
+        observer.queue = self._now(self._as_told(observer, observer.queue, 1))
         EFFECTS['io-take'](self, command, observer)
 
     def do_media(self, command, name, document, queries):
@@ -274,7 +308,7 @@ class Commands:
         if self.has(FRAMES_IN_TIME):
             self.world.names[name].state = matches(queries, self.known.get(document, (0, 0)))
         elif self.has(FRAMES_BEGIN_AS_THEY_COME) and document.frame is not None and document not in self.known:
-            self.world.names[name].state = matches(queries, FIRST_FRAME)
+            self.world.names[name].state = matches(queries, self.frame_came.get(document, FIRST_FRAME))
         self.states[self.world.names[name]] = matches(queries, self.rules_viewport(document))
 
     def do_raf(self, command, document, key, handler):

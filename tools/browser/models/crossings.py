@@ -3,7 +3,7 @@ from reference import intersection, trace
 from reference.lengths import percentage
 from reference.world import ACTIVE, Document, Element, tree_document
 
-from .layout import PIXEL, whole
+from .layout import ONE, PIXEL, in_units, whole
 from .traits import (CROSSED_IS_TURNED, DEAD_ROOTS_OF_A_LIST, EDGES_REACH_OUT, EVERY_ROOT, IMPLICIT_ROOT, LENGTHS_ARE_CUT,
                      LENGTHS_ARE_FLOORED, PERCENTAGES_ARE_CUT, QUEUES_WAIT, ROOTS_GO_AWAY, SCROLLING_ROOT_UNTOLD)
 
@@ -30,10 +30,10 @@ class Margins:
         basis = width
         if side in (0, 2) and height != width and amount and self.model.differs(self.name):
             basis = height
-        units = percentage(amount, basis)
-        if units % PIXEL and self.model.has(PERCENTAGES_ARE_CUT) and self.model.differs('margin-of-part-pixels'):
-            units = abs(units) // PIXEL * PIXEL * (1 if units > 0 else -1)
-        return units
+        units, ratio = percentage(amount, basis), self.model.world.pixel_ratio
+        # Whole device pixels.
+        pixels = in_units(abs(units) * ratio // (PIXEL * ONE), ratio) * (1 if units > 0 else -1)
+        return pixels if pixels != units and self.model.has(PERCENTAGES_ARE_CUT) and self.model.differs('margin-of-part-pixels') else units
 
 
 def grown(rectangle, by):
@@ -57,6 +57,9 @@ class EngineRoot(intersection.RootRectangle):
 
     def __init__(self, model, observer):
         super().__init__(model.world, observer)
+        if self.box == 'padding box' and any(model.world.layout.edges(self.thing)[2]) and model.differs('root-at-content-box'):
+            self.own = grown(self.own, [-side for side in model.world.layout.edges(self.thing)[2]])
+            self.rectangle = self.own
         margins = Margins(model, observer.margins, 'margin-percentages')
         if model.has(SCROLLING_ROOT_UNTOLD):
             told = grown(self.own, margins.of(self.own))
@@ -112,8 +115,17 @@ class Crossings:
             for registration, entry in self.found(observer, known):
                 if (registration.index, registration.meets) != (entry.index, entry.meets):
                     observer.queue.append(entry)
+                    self.note_queued(observer, entry)
                 registration.index, registration.meets = entry.index, entry.meets
                 self.observed_late.discard(registration)
+
+    def note_queued(self, observer, entry):
+        """Notes when a document got its first entry in this update. Each document in turn finds those of observers with a root in it, and
+        then, for observers without a root, those of its elements."""
+        where = entry.target.document if observer.root is None else getattr(observer.root, 'document', observer.root)
+        order = self.documents_in_order()
+        stage = (order.index(where) if where in order else len(order), observer.root is None)
+        self.queued_at[observer.document] = min(stage, self.queued_at.get(observer.document, stage))
 
     def found(self, observer, known=()):
         """(registration, entry) for each target that is updated."""
@@ -199,7 +211,7 @@ class Crossings:
         """Whether a target has a box, and a frame on the way to the implicit root has none."""
         document = target.document
         while observer.root is None and document.frame is not None:
-            if not self.world.layout.has_box(document.frame):
+            if not self.world.layout.shows(document):
                 return self.world.layout.has_box(target)
             document = document.frame.document
         return False
@@ -248,7 +260,7 @@ class Crossings:
             self.move_edges(observer, entry)
             return
         corner = self.world.layout.frame_corner(document)
-        moved = [whole(place) - place for place in corner]
+        moved = [rounded - place for rounded, place in zip(self.world.layout.whole_place(corner), corner)]
         if moved != [0, 0] and self.differs('cut-in-a-frame'):
             left, top, right, bottom = entry.cut
             entry.cut = (left + moved[0], top + moved[1], right + moved[0], bottom + moved[1])
@@ -305,6 +317,7 @@ class Crossings:
         else:
             known = [observer for document in documents for observer in self.observers_of(document) if observer.queue]
             self.tell_all(known + [observer for observer in self.world.intersection_observers if observer.queue and observer not in known])
+        self.queued_at = {}
         for observer in self.world.intersection_observers:
             if observer.document.state is not ACTIVE and not self.has('entries-of-dead-document'):
                 observer.queue = []
@@ -314,12 +327,13 @@ class Crossings:
         return not observer.registrations and self.has(QUEUES_WAIT) and self.differs('queue-after-unobserve')
 
     def tell_all(self, waiting, also_of_dead_roots=False):
-        begun = set()
+        begun, self.telling = set(), None
         while waiting:
             # A document's observers are notified together, even if it ends in the meantime.
             chosen = next((observer for observer in waiting if observer.document in begun and observer.document.state is not ACTIVE), None)
             chosen = chosen or self.next_of(waiting)
             waiting.remove(chosen)
+            self.telling = chosen.document
             if self.is_told(chosen, also_of_dead_roots):
                 entries, chosen.queue = chosen.queue, []
                 stands = chosen.document.state is ACTIVE
@@ -328,12 +342,16 @@ class Crossings:
 
     def next_of(self, waiting):
         """The observer that is notified next: if the order is arbitrary, by the browser's trace."""
+        if not self.has('observers-in-any-order'):
+            return waiting[0]
         words = self.expected().split()
         if self.round is not None and words[:1] == ['round']:
             words = self.expected(1).split()
-        if words[:1] != ['intersect'] or words[1] == waiting[0].name or 'observers-in-any-order' not in self.classes:
-            return waiting[0]
-        chosen = next((observer for observer in waiting if observer.name == words[1]), waiting[0])
+        # Those of one document are told in any order, and one document after the other: first the one that got an entry first.
+        first = min([self.queued_at.get(observer.document, ()) for observer in waiting])
+        grouped = ([observer for observer in waiting if observer.document is self.telling]
+                   or [observer for observer in waiting if self.queued_at.get(observer.document, ()) == first])
+        chosen = next((observer for observer in grouped if words[:1] == ['intersect'] and observer.name == words[1]), grouped[0])
         if chosen is not waiting[0]:
             self.differs('observers-in-any-order')
         return chosen
@@ -345,7 +363,7 @@ class Crossings:
                 observer.queue = entries + observer.queue
         elif entries:
             self.end_round()
-            entries = self._now(self._as_told(entries, 0))
+            entries = self._now(self._as_told(observer, entries, 0))
             lines = [(trace.intersect_line(observer, entry), None) for entry in entries]
             self.call(observer.document, observer.handler, entries, lines)
 
@@ -365,9 +383,9 @@ class Crossings:
             return self.differs('root-removed')
         return document.state is ACTIVE or (also_of_dead_roots or not self.has(DEAD_ROOTS_OF_A_LIST)) and self.differs('told-of-dead-root')
 
-    def _as_told(self, entries, after):
-        """Entries in the order of the browser's trace."""
-        if not self.has('observers-in-any-order'):
+    def _as_told(self, observer, entries, after):
+        """Entries in the order of the browser's trace: those for an observer without a root come in any order."""
+        if not self.has('observers-in-any-order') or observer.root is not None:
             return list(entries)
         left, ordered = list(entries), []
         for place in range(len(entries)):

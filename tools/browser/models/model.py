@@ -8,7 +8,7 @@ from reference.world import ACTIVE, tree_document
 from .anchoring import Anchors
 from .commands import Commands
 from .crossings import Crossings
-from .layout import EngineWorld
+from .layout import EngineWorld, whole_window
 from .rounds import Rounds
 from .traits import EMPTY_PAGES_LAY_OUT, FRAMES_IN_TIME, TIMERS_LAY_OUT
 from .viewports import Viewports
@@ -24,7 +24,9 @@ class Model(Commands, Viewports, Rounds, Crossings, Page):
         self.order = order
         self.known = {}                   # document -> the viewport's size that the browser has given it
         self.resized = set()              # documents with a `resize` to be fired
-        self.rescaled = False             # whether that of `top` is due to a ratio
+        self.lowered = set()              # documents in frames since the ratio was lowered, up to the end of the next update
+        self.frame_came = {}              # document -> the size of its frame when that was inserted
+        self.rescaled = set()             # those of them with one that is due to a ratio
         self.ever_laid = set()            # documents that have been laid out: a frame inserted into one has no size at first
         self.noted = {}                   # document -> the size that the rules noted at the last update
         self.states = {}                  # query list -> its state by the rules
@@ -56,10 +58,14 @@ class Model(Commands, Viewports, Rounds, Crossings, Page):
         self.found_before = {}            # document -> what its observers find by its last layout, while some are being notified
         self.given = {}                   # element -> its fields -> the property with which each was set
         self.failed = set()               # documents with a loop error in this update, which is fired only once
+        self.is_dirty = False             # whether something has changed since the last layout
+        self.disturbed = False            # whether a listener of a loop error has left it so
         self.all_resize_observers = []
         self.tool_saw = {}                # resize observer -> target -> the last size reported to the tool, or None
         self.late_scrolls = []            # things that a layout has scrolled: their events are queued at the end of an update
         self.anchors = Anchors(self)
+        self.queued_at = {}               # document -> when one of its intersection observers got the first entry of this update
+        self.telling = None               # the document whose intersection observers are being notified
         self.hidden = {}                  # scrolled documents that aren't shown -> whether something in them has changed
         super().__init__(script, lambda line, script_line, about: self.lines.append(line))
         self.world = EngineWorld(script.version, self)
@@ -80,7 +86,7 @@ class Model(Commands, Viewports, Rounds, Crossings, Page):
         commands = list(self.script.commands)
         while commands and commands[0].name in ('viewport', 'ratio'):
             self.run_outside(commands.pop(0))
-        self.known[self.world.top] = self.world.viewport_size
+        self.known[self.world.top] = whole_window(self.world.viewport_size)
         self.resized.clear()
         self.began = True
         return all(self.run_outside(command) for command in commands)
@@ -144,13 +150,15 @@ class Model(Commands, Viewports, Rounds, Crossings, Page):
         awake = {document for document in documents if self.has_work(document)}
         for part in (self.resize_steps, self.scroll_steps, self.media_steps):
             for document in documents:
-                if document.state is ACTIVE:
+                if document.state is ACTIVE and (part == self.resize_steps or self.fires_events(document, awake)):
                     part(document)
         awake = self.awake_for_callbacks(documents, awake)
         for document in documents:
             if document.state is ACTIVE and self.runs_frame_callbacks(document, awake):
                 update._frame_callbacks(self, document)
         self.resize_loop()
+        again = {document for document in self.lowered if document.state is ACTIVE and self.world.layout.shows(document)}
+        self.resized, self.rescaled, self.lowered = self.resized | again, self.rescaled | again, set()
         for thing, document in self.late_scrolls:
             if thing not in document.pending_scrolls:
                 document.pending_scrolls.append(thing)

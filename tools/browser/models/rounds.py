@@ -1,9 +1,11 @@
 """The resize loop as an engine implements it, and its rounds as the tool distinguishes them."""
 from reference import trace
-from reference.world import ACTIVE, depth, tree_document
+from reference.world import ACTIVE, DEAD, depth, preorder, tree_document
 
+from .layout import NO_SIZES
 from .traits import SIZES_OF_GATHERING
 
+BOTTOM = float('inf')     # a depth that nothing is below
 NEVER = (-1, -1)     # the last reported size of a target that hasn't been reported yet
 
 
@@ -40,19 +42,49 @@ class Rounds:
     def rounds_by_turns(self):
         least, delivered = {}, True
         self.failed.clear()
-        while delivered:
-            self.placed = {}
+        # A listener of an error that leaves something to be laid out causes one more turn.
+        while delivered or self.disturbed:
+            self.placed, self.disturbed = {}, False
             self.lay_out_all()
+            self.size_all()
             self.place_all()
             delivered = False
-            for document in self.documents_in_order():
-                if document.state is ACTIVE:
+            for document in self.documents_of_turn():
+                # The page itself has a list of observers from its start, a frame only from its first observer on.
+                if document.state is ACTIVE and (document.frame is None or document.resize_observers):
                     reached = self.one_round(document, least.get(document, 0))
-                    if reached is not None:
-                        least[document] = reached
-                        delivered = True
+                    # A document with nothing to deliver in a turn has no more rounds in this update.
+                    least[document] = BOTTOM if reached is None else reached
+                    delivered = delivered or reached is not None
         if len(least) > 1:
             self.differs('rounds-by-turns')
+
+    def documents_of_turn(self):
+        """The documents in order, as they are after the callbacks of those before: one that these have inserted has its turn too."""
+        order, place = self.documents_in_order(), 0
+        while place < len(order):
+            document = order[place]
+            yield document
+            now = self.documents_in_order()
+            if document in now:
+                order, place = now, now.index(document)
+            place += 1
+
+    def size_all(self):
+        """Remembers the sizes of all boxes: the documents of one turn are gathered from one layout."""
+        for document in self.documents_in_order():
+            # A page that has come into the tree in this update hasn't been laid out yet.
+            is_new = document in self.new_documents and self.differs('rounds-by-turns')
+            for node in preorder(document.root) if document.root is not None else ():
+                self.sizes[node] = NO_SIZES if is_new else self.size_now(node)
+
+    def gathered_size(self, node):
+        """The size with which a target is gathered."""
+        if self.sizes.get(node) is None:
+            # What has been inserted since the layout of this turn has no box yet.
+            is_new = self.has('rounds-by-turns') and self.size_now(node) != NO_SIZES and self.differs('rounds-by-turns')
+            self.sizes[node] = NO_SIZES if is_new else self.size_now(node)
+        return self.sizes[node]
 
     def one_round(self, document, least):
         """Delivers what is deeper; returns the least depth, or None if there was nothing."""
@@ -70,11 +102,16 @@ class Rounds:
                 observer.skipped = False
             self.end_round()
             self.tell(trace.error_line(document))
+            self.is_dirty = False
             self.dispatch((document, True), 'error')
+            self.disturbed = self.disturbed or self.is_dirty
         return None
 
     def deep(self, node):
-        """The depth as the engine counts it: including the document, if there is one."""
+        """The depth as the engine counts it: including the document, if there is one, or the elements around its frame."""
+        if self.has('depth-with-frames') and node.document.state is ACTIVE and node.document.frame is not None:
+            self.differs('depth-with-frames')
+            return depth(node) + self.deep(node.document.frame)
         if not self.has('depth-with-document'):
             return depth(node)
         if tree_document(node) is not None:
@@ -90,8 +127,7 @@ class Rounds:
                 observer.skipped = False
             for observation in observer.observations.values():
                 node = observation.target
-                self.sizes[node] = self.sizes.get(node) or self.size_now(node)
-                size = self.sizes[node].of(observation.box)
+                size = self.gathered_size(node).of(observation.box)
                 if size == observation.last_reported:
                     continue
                 if observation.last_reported == NEVER and size == (0, 0):
@@ -132,7 +168,7 @@ class Rounds:
         entries = []
         for observation in observer.active:
             node = observation.target
-            if node.document.state is not ACTIVE and self.differs('dead-frame-target'):
+            if node.document.state is DEAD and self.differs('dead-frame-target'):
                 continue
             sizes = self.size_now(node)
             known = observation.gathered if self.has(SIZES_OF_GATHERING) else self.sizes[node]

@@ -6,7 +6,8 @@ CROSSED_IS_TURNED = 'crossed is turned'
 QUEUES_WAIT = 'queues wait'
 # Media query lists of the page's own document: evaluated in an update, as in the rules.
 QUERIES_IN_UPDATE = 'queries in the update'
-# Scroll ranges: an element at the root without area, and the margins of one.
+# Scroll ranges: a child without area, of which only the lower edge counts; an element at the root without area, and the margins of one.
+EMPTY_BOXES_REACH_DOWN = 'empty boxes reach down'
 EMPTY_ROOTS_COUNT_NOTHING, ROOT_MARGINS_COUNT = 'empty roots count nothing', 'root margins count'
 # Resize observers: ordered by when they observed their first target.
 FIRST_USE_COUNTS = 'first use counts'
@@ -14,6 +15,8 @@ FIRST_USE_COUNTS = 'first use counts'
 SIZES_OF_GATHERING = 'sizes of the gathering'
 # Device pixels: a side that would have none; positions in a round.
 ONE_PIXEL_AT_LEAST, PLACED_AS_ROUNDS_BEGIN = 'one pixel at least', 'placed as rounds begin'
+# Layout: lengths are in 1/64 device pixel.
+DEVICE_PIXELS_ARE_LAID_OUT = 'device pixels are laid out'
 # Margins: lengths in whole pixels, floored or truncated, and percentages in whole pixels; which roots a scroll margin expands.
 LENGTHS_ARE_FLOORED, LENGTHS_ARE_CUT, PERCENTAGES_ARE_CUT = 'lengths are floored', 'lengths are cut', 'percentages are cut'
 SCROLLING_ROOT_UNTOLD, IMPLICIT_ROOT, EVERY_ROOT = 'a root that scrolls, untold', 'the implicit root', 'every root'
@@ -29,8 +32,10 @@ ROOTS_GO_AWAY = 'roots go away'
 DEAD_ROOTS_OF_A_LIST = 'dead roots of a list'
 # Moved boxes: pending events are dropped with them, and a document without its root element is scrolled back to its beginning.
 EVENTS_GO_WITH_BOXES = 'events go with boxes'
-# Media query lists: in a frame that hasn't been laid out yet they are created with its natural size.
+# Media query lists: in a frame that hasn't been laid out yet they are created with the size that it had when it was inserted.
 FRAMES_BEGIN_AS_THEY_COME = 'frames begin as they come'
+# A lower ratio: frames are given another size and their own again.
+FRAMES_FOLLOW_A_RATIO = 'frames follow a ratio'
 # Layout before an update: documents of frames in the one that is laid out don't get their sizes.
 FRAMES_WAIT = 'frames wait'
 # Frame callbacks: those that exist when their step begins are called.

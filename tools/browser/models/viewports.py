@@ -4,8 +4,8 @@ from reference.layout import BORDER, CONTENT, DEVICE
 from reference.media import matches
 from reference.world import ACTIVE, DEAD, Element, IntersectionObserver, preorder, tree_document
 
-from .layout import NO_SIZES, Sizes
-from .traits import (CALLBACKS_OF_THE_STEP, EMPTY_PAGES_LAY_OUT, EVENTS_GO_WITH_BOXES, FRAMES_IN_TIME, FRAMES_LAY_OUT, FRAMES_WAIT,
+from .layout import NO_SIZES, Sizes, whole_window
+from .traits import (CALLBACKS_OF_THE_STEP, EMPTY_PAGES_LAY_OUT, EVENTS_GO_WITH_BOXES, FRAMES_BEGIN_AS_THEY_COME, FRAMES_IN_TIME, FRAMES_LAY_OUT, FRAMES_WAIT,
                      LATE_SCROLLS, PLACED_AS_ROUNDS_BEGIN, QUERIES_IN_UPDATE)
 
 # An observer of the window itself, for whether a target is visible in it.
@@ -38,7 +38,9 @@ class Viewports:
             elif document not in self.insertions:
                 self.insertions[document] = len(self.insertions)
                 self.new_documents.append(document)
-                if self.has(FRAMES_IN_TIME) and where in self.ever_laid:
+                if self.has(FRAMES_BEGIN_AS_THEY_COME) and self.world.layout.shows(document):
+                    self.frame_came[document] = self.world.layout.frame_size(document)
+                if self.has(FRAMES_IN_TIME) and where in self.ever_laid and document.root is None:
                     self.known[document] = (0, 0)
         if self.has(FRAMES_LAY_OUT) and tree_document(node) in self.known and any(inner.framed is not None for inner in preorder(node)):
             self.lay_out(tree_document(node))
@@ -134,6 +136,7 @@ class Viewports:
         """Lays out a document and those around it, beginning with the outermost; `also` is another one that is given its size."""
         if document.state is not ACTIVE:
             return
+        self.is_dirty = False
         chain = [document]
         while chain[-1].frame is not None:
             chain.append(chain[-1].frame.document)
@@ -151,6 +154,7 @@ class Viewports:
             self.placed = {node: layout.flat_place(node) for node in targets if layout.has_box(node)}
 
     def lay_out_all(self):
+        self.is_dirty = False
         for document in self.documents_in_order():
             self._laid_out(document)
 
@@ -172,7 +176,7 @@ class Viewports:
             self.sized_anew(document)
             self.evaluate(document, self.known[document])
         for inner in self.to_be_made.pop(document, ()):
-            if inner.state is ACTIVE and inner in self.known and layout.has_box(inner.frame) and self.differs('frame-made-anew'):
+            if inner.state is ACTIVE and inner in self.known and layout.shows(inner) and self.differs('frame-made-anew'):
                 self.sized_anew(inner)
                 if told is None or inner not in told:
                     self.emptied.add(inner)
@@ -208,13 +212,13 @@ class Viewports:
         found, layout = set(), self.world.layout
         for inner in self.insertions:
             if inner.state is ACTIVE and inner.frame.document is document:
-                if inner in self.broken or layout.has_box(inner.frame) and self.known.get(inner) != layout.frame_size(inner):
+                if inner in self.broken or layout.shows(inner) and self.known.get(inner) != layout.frame_size(inner):
                     found |= {inner} | self.laid_inside(inner)
         return found
 
     def see_frame(self, document, is_told):
         """Gives a document the size of its frame, if that has a box when the page around it is laid out."""
-        if self.world.layout.has_box(document.frame):
+        if self.world.layout.shows(document):
             self.unshown.discard(document)
             if is_told:
                 self.learns(document, self.world.layout.frame_size(document))
@@ -238,7 +242,7 @@ class Viewports:
         """A scrolled document gets a scroll event when its frame's box disappears and when it comes back."""
         if document.state is not ACTIVE or not self.has('scroll-of-hidden-frame'):
             return
-        shown = self.world.layout.has_box(document.frame)
+        shown = self.world.layout.shows(document)
         if not shown and document.scroll != (0, 0) and document not in self.hidden:
             self.differs('scroll-of-hidden-frame')
             self.hidden[document] = False
@@ -269,7 +273,7 @@ class Viewports:
     def cut_offsets(self, document):
         """Clamps the stored positions of scroll containers to their ranges."""
         layout = self.world.layout
-        if document.scroll != (0, 0) and (document.frame is None or layout.has_box(document.frame)):
+        if document.scroll != (0, 0) and (document.frame is None or layout.shows(document)):
             self._cut(document, document, layout.document_offset(document))
         if document.root is not None:
             for node in preorder(document.root):
@@ -316,7 +320,7 @@ class Viewports:
     def is_out_of_view(self, document):
         """Whether a document's frame has a box with an area, of which nothing is visible in the window."""
         layout = self.world.layout
-        if document.frame is None or 0 in layout.viewport(document) or not layout.has_box(document.frame):
+        if document.frame is None or 0 in layout.viewport(document) or not layout.shows(document):
             return False
         seen = intersection.find(self.world, WINDOW, intersection.RootRectangle(self.world, WINDOW), document.frame)
         # What has become a scroll container since the last layout doesn't clip yet.
@@ -325,11 +329,15 @@ class Viewports:
         intersection.measure(layout, seen)
         return 0 in intersection_size(seen.cut)
 
+    def fires_events(self, document, awake):
+        """Whether a document fires `scroll` and `change` in this update: not if it had nothing to do as the update began."""
+        idle = document not in awake and (document.pending_scrolls or self.changed_queries.get(document))
+        return not idle or not self.differs('event-of-idle-document')
+
     def resize_steps(self, document):
         fires = document in self.resized
         self.note_resize(document, fires)
-        if document.frame is None:
-            self.rescaled = False
+        self.rescaled.discard(document)
         if fires:
             self.resized.discard(document)
             self.tell('event resize @' + document.name)
@@ -353,10 +361,11 @@ class Viewports:
             return
         if first:
             self.noticed.add('frame-first-resize' if document.frame else 'first-resize-event')
+        elif document in self.rescaled and fires:
+            pass
         elif document.frame is None:
-            if not self.rescaled:
-                self.noticed.add('resize-back-again')
-        elif changed and (not self.world.layout.has_box(document.frame) or self.has(FRAMES_IN_TIME) and before == (0, 0)):
+            self.noticed.add('resize-back-again' if whole_window(size) == size else 'viewport-of-part-pixels')
+        elif changed and (not self.world.layout.shows(document) or self.has(FRAMES_IN_TIME) and before == (0, 0)):
             self.noticed.add('hidden-frame-keeps-size')
         elif self.has(FRAMES_IN_TIME):
             self.noticed.add('frame-of-part-pixels' if changed else 'resize-back-again')
@@ -372,14 +381,15 @@ class Viewports:
                 fires = state != self.states.get(queries, state)
                 self.states[queries] = state
                 if fires != (queries in changed) and not (document.root is None and self.has('queries-of-empty-page')):
-                    self.noticed.add('media-of-frame' if document.frame else 'media-change-missed')
+                    late = 'media-change-missed' if whole_window(size) == size else 'viewport-of-part-pixels'
+                    self.noticed.add('media-of-frame' if document.frame else late)
 
     def scroll_steps(self, document):
         update._scroll_steps(self, document)
 
     def media_steps(self, document):
         if document.frame is None and self.has(QUERIES_IN_UPDATE):
-            self.evaluate(document, self.world.viewport_size)
+            self.evaluate(document, whole_window(self.world.viewport_size))
         if document in self.emptied:
             self.evaluate(document, (0, 0))
         changed = self.changed_queries.pop(document, [])

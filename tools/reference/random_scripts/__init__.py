@@ -65,6 +65,7 @@ KINDS = {
                  {'append': 6, 'before': 3, 'read': 4, 'set': 4, 'ro-observe': 4}),
     'texts': Kind('texts that are almost scripts', _MIXED, make=_nearly),
     'checks': Kind('the same, with --check', _MIXED, words=lambda chance: ['--check'], make=_nearly),
+    'prints': Kind('the same, with --print', _MIXED, words=lambda chance: ['--print'], make=_nearly),
     'summaries': Kind('mixed scripts with --summary', _MIXED, words=lambda chance: ['--summary']),
 }
 KINDS['lints'] = Kind('scripts with resize loops, with --lint', KINDS['loops'].weights, KINDS['loops'].liked,

@@ -9,5 +9,5 @@ label-requires c = there c.args.page.now.world c.args.shown.now c.requires.shown
 
 pub returns-clause-value : goal.returns-clause-value
 returns-clause-value c =
-    line_is c.args.page.now.world c.args.shown.now c.requires.shown (c.args.node.0) c.label.result c.depth.result c.place.result c.seen_part.result
-    c.label.ensures (c.depth.ensures ∙ ap (λ (tree : Tree). element_depth tree (c.args.node.0)) c.page.ensures) c.place.ensures.value c.seen_part.ensures.value
+    line_is c.args.page.now.world c.args.shown.now c.requires.shown (c.args.node.0) c.label.result c.depth.result c.place.result c.in_ok-seen.seen
+    c.label.ensures (c.depth.ensures ∙ ap (λ (tree : Tree). element_depth tree (c.args.node.0)) c.page.ensures) c.place.ensures.value c.in_ok-seen.ensures.value

@@ -1,18 +1,25 @@
-use Rattle.std.proofs.Common.{sym, ◌∙◌}
+use Rattle.std.proofs.Common.{sym, subst, ◌∙◌}
+use Rattle.px_units.specs.declared.Rect.{Rect}
+use Rattle.clip_chain.specs.Worlds.{scene_of, view_spot}
+use Rattle.common_clips.specs.Common.{AreInside}
 use Rattle.box_inspector.proofs.Chains.{to_screen, seen_is, told_some, told_none}
 use Rattle.box_inspector.proofs.seen.seen_part.Goals as goal
 
-pub visible_rect-requires : goal.visible_rect-requires
-visible_rect-requires c = to_screen c.args.shown.now c.document_count.ensures.page (c.args.node.0) c.requires
+pub visible_rect-requires-clause-above : goal.visible_rect-requires-clause-above
+visible_rect-requires-clause-above c = to_screen c.args.shown.now c.document_count.ensures.page (c.args.node.0) c.requires.boxed
 
-pub returns-in_err-part-clause-value : goal.returns-in_err-part-clause-value
-returns-in_err-part-clause-value c =
-    let seen = seen_is c.args.shown.now c.document_count.ensures.page (c.args.node.0) c.requires c.bounds-screen.result c.visible_rect.result
-    c.bounds-screen.ensures.bounds c.visible_rect.ensures.part in
-    c.from_residual.ensures ∙ told_none c.args.shown.now (c.args.node.0) (sym seen ∙ c.in_err-part.was)
+pub visible_rect-requires-clause-known : goal.visible_rect-requires-clause-known
+visible_rect-requires-clause-known c =
+    subst (λ (limits : Rect). AreInside (scene_of c.args.shown.now) (view_spot 0) limits c.args.clips.now.inside) (sym c.bounds-screen.ensures.bounds) c.requires.clips
 
-pub returns-clause-value : goal.returns-clause-value
-returns-clause-value c =
-    let seen = seen_is c.args.shown.now c.document_count.ensures.page (c.args.node.0) c.requires c.bounds-screen.result c.visible_rect.result
-    c.bounds-screen.ensures.bounds c.visible_rect.ensures.part in
-    told_some c.args.shown.now (c.args.node.0) c.in_ok-part.part c.in_document.result (sym seen ∙ c.in_ok-part.was) c.in_document.ensures.value
+pub returns-in-Some-clause-value : goal.returns-in-Some-clause-value
+returns-in-Some-clause-value c =
+    let seen = seen_is c.args.shown.now c.document_count.ensures.page (c.args.node.0) c.requires.boxed c.bounds-screen.result c.in_ok-visible.visible
+    c.bounds-screen.ensures.bounds c.in_ok-visible.ensures.part in
+    told_some c.args.shown.now (c.args.node.0) c.in-Some.part c.in_document.result (sym seen ∙ c.in-Some.is) c.in_document.ensures.value
+
+pub returns-in-None-clause-value : goal.returns-in-None-clause-value
+returns-in-None-clause-value c =
+    let seen = seen_is c.args.shown.now c.document_count.ensures.page (c.args.node.0) c.requires.boxed c.bounds-screen.result c.in_ok-visible.visible
+    c.bounds-screen.ensures.bounds c.in_ok-visible.ensures.part in
+    told_none c.args.shown.now (c.args.node.0) (sym seen ∙ c.in-None.is)

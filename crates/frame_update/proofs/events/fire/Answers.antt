@@ -11,7 +11,7 @@ use Rattle.frame_update.proofs.events.fire.Goals as goal
 
 pub returns-in_err-write_one : goal.returns-in_err-write_one
 returns-in_err-write_one g c =
-    stopped c.from_residual.result c.in_err-write_one.field-0.0 c.from_residual.ensures refl refl
+    stopped c.from_residual.result c.in_err-write_one.field-0.0 c.from_residual.ensures refl refl c.requires.ready
     (run_same (fire_is _ _ _ _ _)
     (cut_run {A = Unit {0}} {flow = goes_on} c.in_err-write_one.field-0.0 _
     (cut_saying c.in_err-write_one.field-0.0 _ _ _ c.in_err-write_one.ensures.told)))
@@ -19,6 +19,7 @@ returns-in_err-write_one g c =
 pub returns-in_err-invoke : goal.returns-in_err-invoke
 returns-in_err-invoke g c =
     stopped c.from_residual-in_err-invoke.result c.in_err-invoke.field-0.0 c.from_residual-in_err-invoke.ensures c.in_err-invoke.ensures.script c.in_err-invoke.ensures.lent
+    c.in_err-invoke.ensures.ready
     (run_same (fire_is _ _ _ _ _)
     (cut_run c.in_err-invoke.field-0.0 _
     (then_run (Err c.in_err-invoke.field-0.0) _ refl (say_run (Ok (tt {0})) c.in_ok-write_one.ensures.told) c.in_err-invoke.ensures.says)))

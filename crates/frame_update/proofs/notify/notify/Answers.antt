@@ -1,7 +1,7 @@
 use Rattle.std.proofs.Common.{◌+◌, ap, drop, refl, sym, ◌∙◌}
 use Rattle.std.proofs.lemmas.List.{get_or_default}
 use Rattle.script_model.specs.Scripts.{handlers_in}
-use Rattle.page_model.specs.Intersections.{notify_watcher}
+use Rattle.page_model.specs.Intersections.{notify, notify_watcher}
 use Rattle.page_model.specs.World.{Notify}
 use Rattle.page_model.specs.Callbacks.{Script}
 use Rattle.page_model.specs.Runs.{for_each}
@@ -11,8 +11,8 @@ use Rattle.page_state.proofs.Ready.{notify_refused}
 use Rattle.intersection_observer.specs.declared.root.WatcherId.{WatcherId}
 use Rattle.intersection_update.specs.Watching.{watcher_numbers}
 use Rattle.trace_runs.proofs.Loops.{each_more, each_none}
-use Rattle.trace_runs.proofs.Runs.{run_same, silent_run}
-use Rattle.frame_update.proofs.Going.{arrived, run_begins, run_goes_on, run_is_cut, run_is_done}
+use Rattle.trace_runs.proofs.Runs.{memory_run, run_same, silent_run}
+use Rattle.frame_update.proofs.Going.{arrived, cut_short, run_begins, run_goes_on, run_is_cut, run_is_done}
 use Rattle.frame_update.proofs.Notifying.{listed_there, notify_dropped, notify_listed, still_there, turn_made}
 use Rattle.frame_update.proofs.Ready.{ready_next, still_prepared}
 use Rattle.frame_update.proofs.notify.notify.Goals as goal
@@ -23,6 +23,13 @@ returns-then-not-is_active g c =
     (notify_refused c.args.run.now.page.now.world c.args.document.0) c.requires.ready)
     (run_same (sym (notify_dropped (handlers_in c.args.run.now.script.now.items) c.args.document.0 c.args.run.now.page.now.world (sym c.if-not-is_active.ensures)))
     (silent_run refl))
+
+-- the list was refused, and the flag is cleared
+pub returns-in_default : goal.returns-in_default
+returns-in_default g c =
+    cut_short refl refl
+    (still_prepared c.args.run.now.script.now.items (with_first (Notify c.args.document.0) c.args.run.now.page.now.world) c.notify_list.new.self.world c.notify_list.ensures.ready c.requires.ready)
+    (memory_run (notify (handlers_in c.args.run.now.script.now.items) c.args.document.0 c.args.run.now.page.now.world))
 
 pub loop-watcher-init : goal.loop-watcher-init
 loop-watcher-init g c = record {

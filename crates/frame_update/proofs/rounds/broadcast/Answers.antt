@@ -1,6 +1,7 @@
 use Rattle.std.proofs.Common.{◌∙◌, ap, arith, refl, subst, sym}
 use Rattle.std.specs.Borrow.{Bor}
-use Rattle.std.specs.Prelude.{Err, None, Ok}
+use Rattle.std.specs.Prelude.{Err, None, Ok, length}
+use Rattle.script_model.specs.Scripts.{handlers_in}
 use Rattle.script_model.specs.Syntax as syntax
 use Rattle.page_model.specs.Callbacks.{Script}
 use Rattle.page_model.specs.Gathering.{sight_of}
@@ -25,7 +26,7 @@ returns-in_default-clause-goes g c = record {
       lifted_run world_in (Err Memory)
       (over_first (λ (script : Script). broadcast script c.args.document.0 c.args.run.now.page.now.world) c.loop-document.invariant.script
       (end_memory {state = broadcast_at None c.next_delivery.new.self.world} c.loop-document.invariant.turns.following));
-  ready = tt;
+  ready = still_prepared c.loop-document.run.script.now.items c.loop-document.run.page.now.world c.next_delivery.new.self.world c.next_delivery.ensures.ready c.loop-document.invariant.turns.ready;
   script = c.loop-document.invariant.script;
   lent = c.loop-document.invariant.lent;
 }
@@ -57,7 +58,7 @@ call_observer-requires-clause-entries g c =
     let it = c.in-Ok.ensures in
     handed_entries c.args.document.0 c.loop-document.place c.loop-document.run.page.now.world c.next_delivery.new.self.world c.in-Some.delivery
     (handed_out _ _ _ _ c.in-Ok.next c.in-Some.delivery c.in-Some.is it.turn it.entries (ap (λ (page : PageView). page.world) it.reported) it.made it.some)
-    c.loop-document.run.script.now.items c.loop-document.invariant.turns.ready
+    (length (handlers_in c.loop-document.run.script.now.items)) c.loop-document.invariant.turns.ready.range
 
 pub loop-document-smaller : goal.loop-document-smaller
 loop-document-smaller g c =
@@ -91,6 +92,7 @@ returns-in_err-call_observer-clause-goes g c =
     (ap (λ (page : PageView). page.world) it.reported) it.made it.some in
     let called = c.in_err-call_observer.ensures in
     stopped c.from_residual.result c.in_err-call_observer.field-0.0 c.from_residual.ensures (called.script ∙ c.loop-document.invariant.script) (called.lent ∙ c.loop-document.invariant.lent)
+    called.ready
     (lifted_run world_in (Err c.in_err-call_observer.field-0.0)
     (over_first (λ (script : Script). broadcast script c.args.document.0 c.args.run.now.page.now.world) c.loop-document.invariant.script
     (broadcast_cut c.loop-document.invariant.turns handed (sym c.loop-document-test.ensures) (c.entries_are_those_of_a_broadcast.ensures.entries (sight_of c.loop-document.run.page.now.world) (active_at c.loop-document.run.page.now.world.resize_observers c.in-Some.delivery.observer.0)) c.least_depth.ensures c.in_err-call_observer.field-0.0 called.says)))

@@ -43,6 +43,7 @@ pub returns-in-Err-Limit : goal.returns-in-Err-Limit
 returns-in-Err-Limit g c =
     let called = rw c.in-Err-Limit.field-0-is at c.in-Err-Limit.ensures in
     cut_short called.script called.lent
+    (still_prepared c.call_handler.new.run.script.now.items c.call_handler.new.run.page.now.world c.end_turn-in-Err-Limit.new.page.world c.end_turn-in-Err-Limit.ensures.ready called.ready)
     (turn_run (emptied c.args.document.0 c.args.delivery.observer.0) (Err (Limit c.in-Err-Limit.kind c.in-Err-Limit.line c.in-Err-Limit.number)) c.end_turn-in-Err-Limit.ensures.emptied
     (run_same
     (ap
@@ -54,7 +55,7 @@ returns-in-Err-Limit g c =
 pub returns-in-Err-Memory : goal.returns-in-Err-Memory
 returns-in-Err-Memory g c =
     let called = rw c.in-Err-Memory.field-0-is at c.in-Err-Memory.ensures in
-    cut_short called.script called.lent
+    cut_short called.script called.lent called.ready
     (memory_lifted (emptied c.args.document.0 c.args.delivery.observer.0)
     (run_same
     (ap

@@ -30,6 +30,7 @@ returns-in_err-gathered g c =
     let laws : AreLaws = record { gathered = it.gathered; falls = it.falls; begins = it.begins; unrolled = it.unrolled; ended = it.ended; loops = it.loops } in
     let round = c.in_err-gathered.ensures.goes in
     stopped c.from_residual.result c.in_err-gathered.field-0.0 c.from_residual.ensures (round.script ∙ c.loop-gathered.invariant.script) (round.lent ∙ c.loop-gathered.invariant.lent)
+    round.ready
     (over_first (λ (script : Script). resize_loop script c.args.document.0 c.args.run.now.page.now.world) c.loop-gathered.invariant.script
     (loop_cut laws c.loop-gathered.invariant.loop c.in-Some.field-0 c.in-Some.is c.in_err-gathered.field-0.0 round.says))
 

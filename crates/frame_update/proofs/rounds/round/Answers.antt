@@ -9,7 +9,7 @@ use Rattle.frame_update.proofs.rounds.round.Goals as goal
 pub returns-in_err-least-clause-goes : goal.returns-in_err-least-clause-goes
 returns-in_err-least-clause-goes g c =
     let sent = c.in_err-least.ensures.goes in
-    stopped c.from_residual.result c.in_err-least.field-0.0 c.from_residual.ensures sent.script sent.lent
+    stopped c.from_residual.result c.in_err-least.field-0.0 c.from_residual.ensures sent.script sent.lent sent.ready
     (round_cut (handlers_in c.args.run.now.script.now.items) c.args.document.0 c.args.run.now.page.now.world c.in_err-least.field-0.0 sent.says)
 
 pub returns-then-not-is_active-clause-goes : goal.returns-then-not-is_active-clause-goes
@@ -23,7 +23,7 @@ label-name-requires g c = active-in c.broadcast.new.run.page.now.world.tree c.ar
 pub returns-in_err-write_one-clause-goes : goal.returns-in_err-write_one-clause-goes
 returns-in_err-write_one-clause-goes g c =
     let sent = c.in_ok-least.ensures.goes in
-    stopped c.from_residual-in_err-write_one.result c.in_err-write_one.field-0.0 c.from_residual-in_err-write_one.ensures sent.script sent.lent
+    stopped c.from_residual-in_err-write_one.result c.in_err-write_one.field-0.0 c.from_residual-in_err-write_one.ensures sent.script sent.lent sent.ready
     (round_unsaid (handlers_in c.args.run.now.script.now.items) c.args.document.0 c.args.run.now.page.now.world c.in_ok-least.least c.broadcast.new.run.page.now.world sent.says c.in_ok-least.ensures.least (sym c.if-not-is_active.ensures)
     c.label-name.result c.unwrap_or-depth.result c.in_err-write_one.field-0.0 c.label-name.ensures c.unwrap_or-depth.ensures c.in_err-write_one.ensures.told)
 

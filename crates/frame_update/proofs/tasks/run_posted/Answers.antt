@@ -18,7 +18,7 @@ label-name-requires g c = active-in (c.args.run.now.page.now.world.tree) c.args.
 
 pub returns-in_err-write_one : goal.returns-in_err-write_one
 returns-in_err-write_one g c =
-    stopped c.from_residual.result c.in_err-write_one.field-0.0 c.from_residual.ensures refl refl
+    stopped c.from_residual.result c.in_err-write_one.field-0.0 c.from_residual.ensures refl refl c.requires.ready
     (run_same (told_active _ c.args.document.0 (Some c.args.handler.0) _ c.args.run.now.page.now.world (sym c.if-not-is_active.ensures))
     (untold_run _ c.args.document.0 (Some c.args.handler.0) c.args.run.now.page.now.world
     (ap (λ name. TaskLine name c.handler_name.result) c.label-name.ensures

@@ -4,7 +4,7 @@ use Rattle.script_model.specs.Scripts.{handlers_in}
 use Rattle.page_model.specs.Commands.{begun_in}
 use Rattle.page_model.specs.Ticks.{tick, time_set}
 use Rattle.trace_runs.proofs.Runs.{run_same}
-use Rattle.frame_update.proofs.Ticking.{begun_is, begun_run, caught_run, clock_is, ready_told, refused_run, timed_is, unbegun_is}
+use Rattle.frame_update.proofs.Ticking.{begun_is, begun_run, caught_run, clock_is, refused_run, timed_is, unbegun_is}
 use Rattle.frame_update.proofs.Ready.{prepared, readied}
 use Rattle.frame_update.proofs.ticks.tick.Goals as goal
 
@@ -16,8 +16,7 @@ returns-in-Err-clause-says g c =
 
 pub returns-in-Err-clause-ready : goal.returns-in-Err-clause-ready
 returns-in-Err-clause-ready g c =
-    ready_told c.args.script.now.items c.begin_command.new.self.world c.refuse.result
-    (c.begin_command.ensures.ready (length (handlers_in c.args.script.now.items)) c.requires.ready)
+    c.begin_command.ensures.ready (length (handlers_in c.args.script.now.items)) c.requires.ready
 
 pub returns-in-Err-set_time-clause-says : goal.returns-in-Err-set_time-clause-says
 returns-in-Err-set_time-clause-says g c =
@@ -28,8 +27,7 @@ returns-in-Err-set_time-clause-says g c =
 pub returns-in-Err-set_time-clause-ready : goal.returns-in-Err-set_time-clause-ready
 returns-in-Err-set_time-clause-ready g c =
     let handlers = length (handlers_in c.args.script.now.items) in
-    ready_told c.args.script.now.items c.set_time.new.self.world c.refuse-in-Err-set_time.result
-    (c.set_time.ensures.ready handlers (c.begin_command.ensures.ready handlers c.requires.ready))
+    c.set_time.ensures.ready handlers (c.begin_command.ensures.ready handlers c.requires.ready)
 
 pub run_timed-requires-clause-ready : goal.run_timed-requires-clause-ready
 run_timed-requires-clause-ready g c =
@@ -47,7 +45,7 @@ returns-clause-says g c =
     (caught_run c.run_timed.result c.run_timed.ensures.says)
 
 pub returns-clause-ready : goal.returns-clause-ready
-returns-clause-ready g c = readied c.args.script.now.items c.run_timed.new.page.world c.run_timed.result c.run_timed.ensures.ready
+returns-clause-ready g c = readied c.args.script.now.items c.run_timed.new.page.world c.run_timed.ensures.ready
 
 pub returns-in-Err-clause-loops : goal.returns-in-Err-clause-loops
 returns-in-Err-clause-loops g c =

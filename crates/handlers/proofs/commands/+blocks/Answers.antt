@@ -1,4 +1,4 @@
-use Rattle.std.proofs.Common.{◌≡◌, ◌+◌, ◌≤◌, ap, arith, refl, rules, ◌∙◌}
+use Rattle.std.proofs.Common.{◌≡◌, ◌+◌, ◌≤◌, ap, arith, length, refl, rules, ◌∙◌}
 use Rattle.script_syntax.specs.Seen.{command_of, command_size, block_size, block_of}
 use Rattle.trace_runs.proofs.Following.{begin, rest_same, go_on, end_thrown, end_cut, done}
 use Rattle.trace_runs.proofs.Loops.{each_more, each_none}
@@ -10,7 +10,7 @@ use Rattle.handlers.specs.Entries.{entries_of, present_at}
 use Rattle.trace_runs.proofs.Answered.{threw_run}
 use Rattle.handlers.proofs.Answered.{apply_same, begun_is, found_same, held_is, unheld_is, unbegun_run}
 use Rattle.script_syntax.proofs.Walked.{each_size, size_within, when_size}
-use Rattle.handlers.proofs.Blocks.{action_allowed, command_ready, block_more, block_same, block_none, command_begins, each_does, simple_does, test_allowed, when_does}
+use Rattle.handlers.proofs.Blocks.{action_allowed, block_more, block_same, block_none, command_begins, each_does, simple_does, test_allowed, when_does}
 use Rattle.handlers.proofs.Growing.{in_after_begun, in_after_block, in_after_command}
 use Rattle.handlers.proofs.Places.{present_is, subject_in}
 use Rattle.handlers.proofs.commands.+blocks.Goals as goal
@@ -37,26 +37,26 @@ run_command-apply-requires g t c =
 
 pub run_command-returns-in-Each-clause-says : goal.run_command-returns-in-Each-clause-says
 run_command-returns-in-Each-clause-says g t c =
-    run_same (begun_is _ _ _ _ c.in_default.ensures.counted ∙ each_does _ _ _ c.args.command.now.what _ _ c.in-Each.body c.in-Each.is) c.run_each.ensures
+    run_same (begun_is _ _ _ _ c.in_default.ensures.counted ∙ each_does _ _ _ c.args.command.now.what _ _ c.in-Each.body c.in-Each.is) c.run_each.ensures.says
 
 pub run_command-returns-in-When-clause-says : goal.run_command-returns-in-When-clause-says
 run_command-returns-in-When-clause-says g t c =
-    run_same (begun_is _ _ _ _ c.in_default.ensures.counted ∙ when_does _ _ _ c.args.command.now.what _ _ c.in-When.condition c.in-When.body c.in-When.is) c.run_when.ensures
+    run_same (begun_is _ _ _ _ c.in_default.ensures.counted ∙ when_does _ _ _ c.args.command.now.what _ _ c.in-When.condition c.in-When.body c.in-When.is) c.run_when.ensures.says
 
 pub run_command-returns-in-Act-clause-says : goal.run_command-returns-in-Act-clause-says
 run_command-returns-in-Act-clause-says g t c =
     run_same
     (begun_is _ _ _ _ c.in_default.ensures.counted ∙ simple_does _ _ _ c.args.command.now.what _ _ c.in-Act.action c.in-Act.is)
-    (apply_same _ _ _ _ c.subject_at-present.ensures c.apply.ensures)
+    (apply_same _ _ _ _ c.subject_at-present.ensures c.apply.ensures.says)
 
 pub run_each-loop-place-init : goal.run_each-loop-place-init
-run_each-loop-place-init g t c = record { following = begin; targets = c.requires.targets }
+run_each-loop-place-init g t c = record { following = begin; targets = c.requires.targets; ready = λ before. before }
 
-pub run_each-returns-in-Ok-Thrown : goal.run_each-returns-in-Ok-Thrown
-run_each-returns-in-Ok-Thrown g t c =
+pub run_each-returns-in-Ok-Thrown-clause-says : goal.run_each-returns-in-Ok-Thrown-clause-says
+run_each-returns-in-Ok-Thrown-clause-says g t c =
     end_thrown _ refl refl
     (rest_same (each_more _ _ c.loop-place.place _ _ (omega (arith, c.count-place-end.ensures)) (present_is _ c.loop-place.place (omega (arith, c.count-place-end.ensures)))) c.loop-place.invariant.following)
-    (rw c.in-Ok-Thrown.field-0-is at c.in-Ok-Thrown.ensures)
+    (rw c.in-Ok-Thrown.field-0-is at c.in-Ok-Thrown.ensures.says)
 
 pub run_each-loop-place-preserved : goal.run_each-loop-place-preserved
 run_each-loop-place-preserved g t c =
@@ -64,28 +64,29 @@ run_each-loop-place-preserved g t c =
       following =
           go_on _ refl
           (rest_same (each_more _ _ c.loop-place.place _ _ (omega (arith, c.count-place-end.ensures)) (present_is _ c.loop-place.place (omega (arith, c.count-place-end.ensures)))) c.loop-place.invariant.following)
-          (rw c.in-Ok-Next.field-0-is at c.in-Ok-Next.ensures);
-      targets = in_after_block c.runs_take_nothing_back.ensures.commands _ _ _ _ _ _ c.in-Ok-Next.ensures.ended.state_is c.loop-place.invariant.targets;
+          (rw c.in-Ok-Next.field-0-is at c.in-Ok-Next.ensures.says);
+      targets = in_after_block c.runs_take_nothing_back.ensures.commands _ _ _ _ _ _ c.in-Ok-Next.ensures.says.ended.state_is c.loop-place.invariant.targets;
+      ready = λ before. c.in-Ok-Next.ensures.ready (c.loop-place.invariant.ready before);
     }
 
-pub run_each-returns : goal.run_each-returns
-run_each-returns g t c =
+pub run_each-returns-clause-says : goal.run_each-returns-clause-says
+run_each-returns-clause-says g t c =
     done refl (rest_same (each_none _ _ c.loop-place.place _ (omega (arith, c.count-place-end.ensures))) c.loop-place.invariant.following)
 
-pub run_when-returns-in-Ok-true : goal.run_when-returns-in-Ok-true
-run_when-returns-in-Ok-true g t c =
+pub run_when-returns-in-Ok-true-clause-says : goal.run_when-returns-in-Ok-true-clause-says
+run_when-returns-in-Ok-true-clause-says g t c =
     run_same
     (held_is _ _ _ (run_block (handlers_in c.args.script.now.items) (presents (entries_of c.args.entries.now)) c.args.block.now (present_at (presents (entries_of c.args.entries.now)) c.args.subject)) _ (found_same _ _ c.subject_at-present.ensures (rw c.in-Ok-true.field-0-test at c.in-Ok-true.ensures.answer)) (ap (λ (page : PageView). page.world) c.in-Ok-true.ensures.same))
-    c.run_block.ensures
+    c.run_block.ensures.says
 
-pub run_when-returns-in-Ok-false : goal.run_when-returns-in-Ok-false
-run_when-returns-in-Ok-false g t c =
+pub run_when-returns-in-Ok-false-clause-says : goal.run_when-returns-in-Ok-false-clause-says
+run_when-returns-in-Ok-false-clause-says g t c =
     run_same
     (unheld_is _ _ _ (run_block (handlers_in c.args.script.now.items) (presents (entries_of c.args.entries.now)) c.args.block.now (present_at (presents (entries_of c.args.entries.now)) c.args.subject)) _ (found_same _ _ c.subject_at-present.ensures (rw c.in-Ok-false.field-0-test at c.in-Ok-false.ensures.answer)) (ap (λ (page : PageView). page.world) c.in-Ok-false.ensures.same))
     (silent_run refl)
 
-pub run_when-returns-in-Err : goal.run_when-returns-in-Err
-run_when-returns-in-Err g t c =
+pub run_when-returns-in-Err-clause-says : goal.run_when-returns-in-Err-clause-says
+run_when-returns-in-Err-clause-says g t c =
     threw_run _ _ _ (found_same _ _ c.subject_at-present.ensures c.in-Err.ensures.answer) (ap (λ (page : PageView). page.world) c.in-Err.ensures.same) (c.write_throw.ensures.runs _)
 
 pub run_block-loop-command-init : goal.run_block-loop-command-init
@@ -93,6 +94,7 @@ run_block-loop-command-init g t c =
     record {
       following = rest_same (block_same _ _ _ _ c.as_slice-command-items.ensures.value) begin;
       targets = c.requires.targets;
+      ready = λ before. before;
     }
 
 pub run_block-run_command-requires : goal.run_block-run_command-requires
@@ -110,14 +112,14 @@ run_command-run_when-requires g t c =
     let targets = in_after_begun c.args.page.now.world _ _ c.in_default.ensures.counted c.requires.targets in
     λ lives within. (omega arith, search rules)
 
-pub run_each-returns-in-Err : goal.run_each-returns-in-Err
-run_each-returns-in-Err g t c =
+pub run_each-returns-in-Err-clause-says : goal.run_each-returns-in-Err-clause-says
+run_each-returns-in-Err-clause-says g t c =
     end_cut c.in-Err.fault _
     (rest_same (each_more _ _ c.loop-place.place _ _ (omega (arith, c.count-place-end.ensures)) (present_is _ c.loop-place.place (omega (arith, c.count-place-end.ensures)))) c.loop-place.invariant.following)
-    c.in-Err.ensures
+    c.in-Err.ensures.says
 
-pub run_block-returns-in-Ok-Thrown : goal.run_block-returns-in-Ok-Thrown
-run_block-returns-in-Ok-Thrown g t c =
+pub run_block-returns-in-Ok-Thrown-clause-says : goal.run_block-returns-in-Ok-Thrown-clause-says
+run_block-returns-in-Ok-Thrown-clause-says g t c =
     end_thrown _ refl refl
     (rest_same (block_more c.as_slice-command-items.result.now _ _ (omega arith) c.command-item.is _ _ _ _) c.loop-command.invariant.following)
     (rw c.in-Ok-Thrown.field-0-is at c.in-Ok-Thrown.ensures.says)
@@ -130,34 +132,42 @@ run_block-loop-command-preserved g t c =
           (rest_same (block_more c.as_slice-command-items.result.now _ _ (omega arith) c.command-item.is _ _ _ _) c.loop-command.invariant.following)
           (rw c.in-Ok-Next.field-0-is at c.in-Ok-Next.ensures.says);
       targets = in_after_command c.runs_take_nothing_back.ensures.commands _ _ _ _ _ _ c.in-Ok-Next.ensures.says.ended.state_is c.loop-command.invariant.targets;
+      ready = λ before. c.in-Ok-Next.ensures.ready (c.loop-command.invariant.ready before);
     }
 
-pub run_block-returns-in-Err : goal.run_block-returns-in-Err
-run_block-returns-in-Err g t c =
+pub run_block-returns-in-Err-clause-says : goal.run_block-returns-in-Err-clause-says
+run_block-returns-in-Err-clause-says g t c =
     end_cut c.in-Err.fault _
     (rest_same (block_more c.as_slice-command-items.result.now _ _ (omega arith) c.command-item.is _ _ _ _) c.loop-command.invariant.following)
     c.in-Err.ensures.says
 
-pub run_block-returns : goal.run_block-returns
-run_block-returns g t c =
+pub run_block-returns-clause-says : goal.run_block-returns-clause-says
+run_block-returns-clause-says g t c =
     done refl (rest_same (block_none c.as_slice-command-items.result.now c.loop-command.command-index _ _ _ _ (omega arith)) c.loop-command.invariant.following)
 
 pub run_command-returns-in-Err-clause-ready : goal.run_command-returns-in-Err-clause-ready
-run_command-returns-in-Err-clause-ready g t c =
-    command_ready (handlers_in c.args.script.now.items) (presents (entries_of c.args.entries.now)) (command_of c.args.command.now) c.args.subject c.args.page.now.world _ _
-    c.requires.targets (run_command-returns-in-Err-clause-says g t c)
+run_command-returns-in-Err-clause-ready g t c = c.in-Err.ensures.ready (length (handlers_in c.args.script.now.items))
 
 pub run_command-returns-in-Each-clause-ready : goal.run_command-returns-in-Each-clause-ready
-run_command-returns-in-Each-clause-ready g t c =
-    command_ready (handlers_in c.args.script.now.items) (presents (entries_of c.args.entries.now)) (command_of c.args.command.now) c.args.subject c.args.page.now.world _ _
-    c.requires.targets (run_command-returns-in-Each-clause-says g t c)
+run_command-returns-in-Each-clause-ready g t c = λ before. c.run_each.ensures.ready (c.in_default.ensures.ready (length (handlers_in c.args.script.now.items)) before)
 
 pub run_command-returns-in-When-clause-ready : goal.run_command-returns-in-When-clause-ready
-run_command-returns-in-When-clause-ready g t c =
-    command_ready (handlers_in c.args.script.now.items) (presents (entries_of c.args.entries.now)) (command_of c.args.command.now) c.args.subject c.args.page.now.world _ _
-    c.requires.targets (run_command-returns-in-When-clause-says g t c)
+run_command-returns-in-When-clause-ready g t c = λ before. c.run_when.ensures.ready (c.in_default.ensures.ready (length (handlers_in c.args.script.now.items)) before)
 
 pub run_command-returns-in-Act-clause-ready : goal.run_command-returns-in-Act-clause-ready
-run_command-returns-in-Act-clause-ready g t c =
-    command_ready (handlers_in c.args.script.now.items) (presents (entries_of c.args.entries.now)) (command_of c.args.command.now) c.args.subject c.args.page.now.world _ _
-    c.requires.targets (run_command-returns-in-Act-clause-says g t c)
+run_command-returns-in-Act-clause-ready g t c = λ before. c.apply.ensures.ready (c.in_default.ensures.ready (length (handlers_in c.args.script.now.items)) before)
+
+pub run_each-returns-in-Ok-Thrown-clause-ready : goal.run_each-returns-in-Ok-Thrown-clause-ready
+run_each-returns-in-Ok-Thrown-clause-ready g t c = λ before. c.in-Ok-Thrown.ensures.ready (c.loop-place.invariant.ready before)
+
+pub run_each-returns-in-Err-clause-ready : goal.run_each-returns-in-Err-clause-ready
+run_each-returns-in-Err-clause-ready g t c = λ before. c.in-Err.ensures.ready (c.loop-place.invariant.ready before)
+
+pub run_when-returns-in-Ok-true-clause-ready : goal.run_when-returns-in-Ok-true-clause-ready
+run_when-returns-in-Ok-true-clause-ready g t c = λ before. c.run_block.ensures.ready (c.in-Ok-true.ensures.ready (length (handlers_in c.args.script.now.items)) before)
+
+pub run_block-returns-in-Ok-Thrown-clause-ready : goal.run_block-returns-in-Ok-Thrown-clause-ready
+run_block-returns-in-Ok-Thrown-clause-ready g t c = λ before. c.in-Ok-Thrown.ensures.ready (c.loop-command.invariant.ready before)
+
+pub run_block-returns-in-Err-clause-ready : goal.run_block-returns-in-Err-clause-ready
+run_block-returns-in-Err-clause-ready g t c = λ before. c.in-Err.ensures.ready (c.loop-command.invariant.ready before)

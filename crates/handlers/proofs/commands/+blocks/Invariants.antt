@@ -1,8 +1,9 @@
-use Rattle.std.proofs.Common.{◌+◌, ◌*◌, drop}
+use Rattle.std.proofs.Common.{◌+◌, ◌*◌, drop, length}
 use Rattle.script_model.specs.Scripts.{handlers_in}
 use Rattle.script_syntax.specs.Seen.{command_of, block_of, command_size, block_size}
 use Rattle.page_model.specs.Callbacks.{presents, run_block}
 use Rattle.page_model.specs.Runs.{for_each}
+use Rattle.page_laws.specs.Ready.{IsReadyFor}
 use Rattle.trace_runs.proofs.Following.{Following}
 use Rattle.handlers.specs.Entries.{entries_of, present_at, AreIn}
 use Rattle.handlers.proofs.commands.+blocks.Given as goal
@@ -26,6 +27,7 @@ invariant-run_each-loop-place g l = record {
       (for_each (run_block (handlers_in l.script.items) (presents (entries_of l.entries)) l.block) (presents (entries_of l.entries)) l.fn.page.world)
       (for_each (run_block (handlers_in l.script.items) (presents (entries_of l.entries)) l.block) (drop l.place (presents (entries_of l.entries))) l.page.world);
   targets : AreIn l.page.world (presents (entries_of l.entries));
+  ready : IsReadyFor (length (handlers_in l.script.items)) l.fn.page.world → IsReadyFor (length (handlers_in l.script.items)) l.page.world;
 }
 
 -- the commands up to here were run, and those from here on are to be run
@@ -35,4 +37,5 @@ invariant-run_block-loop-command g l = record {
       (run_block (handlers_in l.script.items) (presents (entries_of l.entries)) l.block (present_at (presents (entries_of l.entries)) l.subject) l.fn.page.world)
       (run_block (handlers_in l.script.items) (presents (entries_of l.entries)) (block_of (drop l.command-index l.command-items)) (present_at (presents (entries_of l.entries)) l.subject) l.page.world);
   targets : AreIn l.page.world (presents (entries_of l.entries));
+  ready : IsReadyFor (length (handlers_in l.script.items)) l.fn.page.world → IsReadyFor (length (handlers_in l.script.items)) l.page.world;
 }

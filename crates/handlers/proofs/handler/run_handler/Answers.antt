@@ -1,9 +1,8 @@
 use Rattle.std.proofs.Common.{refl, sym}
 use Rattle.std.specs.Prelude.{Ok}
-use Rattle.script_model.specs.Scripts.{handlers_in}
 use Rattle.trace_runs.proofs.Following.{cut_saying, then_run}
 use Rattle.trace_runs.proofs.Runs.{run_same, say_run, silent_run}
-use Rattle.handlers.proofs.Handlers.{call_active, call_inactive, called_ready}
+use Rattle.handlers.proofs.Handlers.{call_active, call_inactive}
 use Rattle.handlers.proofs.handler.run_handler.Goals as goal
 
 pub returns-then-not-is_active-clause-says : goal.returns-then-not-is_active-clause-says
@@ -12,17 +11,9 @@ returns-then-not-is_active-clause-says g c = run_same (call_inactive _ c.args.do
 pub returns-in-Ok-clause-says : goal.returns-in-Ok-clause-says
 returns-in-Ok-clause-says g c =
     run_same (call_active _ c.args.document.0 _ _ _ (sym c.if-not-is_active.ensures))
-    (then_run c.run_named.result _ refl (say_run (Ok (tt {0})) c.in-Ok.ensures) c.run_named.ensures)
+    (then_run c.run_named.result _ refl (say_run (Ok (tt {0})) c.in-Ok.ensures) c.run_named.ensures.says)
 
 pub returns-in-Err-clause-says : goal.returns-in-Err-clause-says
 returns-in-Err-clause-says g c =
     run_same (call_active _ c.args.document.0 _ _ _ (sym c.if-not-is_active.ensures))
     (cut_saying c.in-Err.fault _ _ _ c.in-Err.ensures)
-
-pub returns-then-not-is_active-clause-ready : goal.returns-then-not-is_active-clause-ready
-returns-then-not-is_active-clause-ready g c =
-    called_ready (handlers_in c.args.script.now.items) c.args.document.0 _ _ c.args.page.now.world _ _ c.requires.handed.targets (returns-then-not-is_active-clause-says g c)
-
-pub returns-in-Ok-clause-ready : goal.returns-in-Ok-clause-ready
-returns-in-Ok-clause-ready g c =
-    called_ready (handlers_in c.args.script.now.items) c.args.document.0 _ _ c.args.page.now.world _ _ c.requires.handed.targets (returns-in-Ok-clause-says g c)

@@ -1,13 +1,10 @@
-use Rattle.std.proofs.Common.{◌≡◌, ◌-◌, option_map, ap, sym, subst, ◌∙◌, arith}
+use Rattle.std.proofs.Common.{◌≡◌, ◌-◌, true, option_map, ap, sym, subst, ◌∙◌, arith}
 use Rattle.element_tree.specs.Links.{number}
 use Rattle.page_model.specs.Lookups.{element_at}
-use Rattle.page_model.specs.Documents.{first_of_list}
+use Rattle.page_model.specs.Documents.{first_of_list, is_active}
 use Rattle.page_documents.specs.Paths.{way_down}
-use Rattle.page_boxes.specs.Fresh.{IsFreshIn}
-use Rattle.page_boxes.specs.LaidOut.{ChangesOnlyIn}
-use Rattle.page_boxes.specs.Pages.{seen_screen}
+use Rattle.page_boxes.specs.LaidOut.{is_marked, ChangesOnlyIn}
 use Rattle.page_boxes.proofs.Views.{no_way, way_less}
-use Rattle.page_boxes.proofs.Going.{fresh_in}
 use Rattle.page_boxes.proofs.Around.{changes_on, changes_first}
 use Rattle.page_boxes.proofs.layout.+lay_out_up.Goals as goal
 
@@ -15,9 +12,8 @@ pub returns-then-high-eq0-clause-marked : goal.returns-then-high-eq0-clause-mark
 returns-then-high-eq0-clause-marked g t c active =
     absurd (no_way c.args.page.now.tree c.requires.framed c.args.high c.args.document.0 c.if-high-eq0.true (c.requires.leads active))
 
-pub returns-then-high-eq0-clause-above : goal.returns-then-high-eq0-clause-above
-returns-then-high-eq0-clause-above g t c active =
-    absurd (no_way c.args.page.now.tree c.requires.framed c.args.high c.args.document.0 c.if-high-eq0.true (c.requires.leads active))
+pub returns-then-has-clause-marked : goal.returns-then-has-clause-marked
+returns-then-has-clause-marked g t c active = sym c.has.ensures ∙ c.if-has.true
 
 pub lay_out_up-requires : goal.lay_out_up-requires
 lay_out_up-requires g t c κs within =
@@ -34,35 +30,20 @@ lay_out_up-requires g t c κs within =
             c.requires.framed,
             (
               λ held. ap (λ holder. first_of_list (way_down (c.args.high - 1) tree holder)) c.document_of-holder.ensures ∙ less,
-              (
-                c.requires.marks,
-                c.requires.laid_out,
-              ),
+              c.requires.so_far,
             ),
           ),
         ),
       ),
     )
 
-pub lay_out_once-requires-clause-around : goal.lay_out_once-requires-clause-around
-lay_out_once-requires-clause-around g t c frame is =
+pub lay_out_once-requires-clause-above : goal.lay_out_once-requires-clause-above
+lay_out_once-requires-clause-above g t c frame is =
     let tree = c.args.page.now.tree in
     let there = sym c.frame_of.ensures.value ∙ ap (option_map number) c.in-Some.is in
     let same : c.in-Some.frame.0 ≡ frame = cc (sym there ∙ is) in
-    subst (IsFreshIn tree (seen_screen c.args.screen) c.lay_out_up.new.boxes)
-    (c.document_of-holder.ensures ∙ ap (λ n. (element_at tree n).document) same)
-    (fresh_in tree (seen_screen c.args.screen) c.lay_out_up.new.laid_out c.lay_out_up.new.boxes c.lay_out_up.ensures.goes.laid_out c.document_of-holder.result.0
-    c.lay_out_up.ensures.marked)
-
-pub returns-in-Some-clause-above : goal.returns-in-Some-clause-above
-returns-in-Some-clause-above g t c active frame is =
-    let tree = c.args.page.now.tree in
-    let there = sym c.frame_of.ensures.value ∙ ap (option_map number) c.in-Some.is in
-    let same : c.in-Some.frame.0 ≡ frame = cc (sym there ∙ is) in
-    subst (IsFreshIn tree (seen_screen c.args.screen) c.lay_out_once.new.boxes)
-    (c.document_of-holder.ensures ∙ ap (λ n. (element_at tree n).document) same)
-    (fresh_in tree (seen_screen c.args.screen) c.lay_out_once.new.laid_out c.lay_out_once.new.boxes c.lay_out_once.ensures.goes.laid_out c.document_of-holder.result.0
-    (λ shown. c.lay_out_once.ensures.goes.more c.document_of-holder.result.0 (c.lay_out_up.ensures.marked shown)))
+    subst (λ d. is_active tree d ≡ true → is_marked c.lay_out_up.new.laid_out.marks d ≡ true)
+    (c.document_of-holder.ensures ∙ ap (λ n. (element_at tree n).document) same) c.lay_out_up.ensures.marked
 
 pub returns-in-Some-clause-left : goal.returns-in-Some-clause-left
 returns-in-Some-clause-left g t c =

@@ -2,6 +2,7 @@ use Rattle.std.proofs.Common.{None, option_map, refl, ap, sym, ◌∙◌, arith}
 use Rattle.element_tree.specs.Links.{number}
 use Rattle.page_model.specs.Lookups.{document_at}
 use Rattle.layout_model.specs.Boxes.{inputs_in}
+use Rattle.layout_model.specs.Views.{View}
 use Rattle.page_model.specs.PageBoxes.{framed_size, view_of, inputs_of}
 use Rattle.block_layout.specs.Seen.{seen_inputs}
 use Rattle.block_layout.specs.Trees.{layout_tree}
@@ -12,7 +13,7 @@ use Rattle.page_tree.specs.Items.{style_in, kind_in}
 use Rattle.page_boxes.specs.Pages.{seen_screen, seen_pair}
 use Rattle.page_boxes.proofs.Pages.{count_here}
 use Rattle.page_boxes.proofs.Undue.{fills_none, fills_fresh}
-use Rattle.page_boxes.proofs.Renewed.{no_root, rootless_here, rootless_laid_out, laid_out_here, others_here, kept_here, inputs_inside, unboxed_here, ready_before, left_here}
+use Rattle.page_boxes.proofs.Renewed.{no_root, rootless_here, rootless_laid_out, laid_out_here, others_here, kept_here, view_shown, inputs_inside, unboxed_here, ready_before, left_here}
 use Rattle.page_boxes.proofs.layout.lay_out.Goals as goal
 
 -- a document that shows nothing
@@ -31,8 +32,30 @@ returns-in_default-framed_size-clause-laid_out g c =
     let tree = c.args.page.now.tree in
     let screen = seen_screen c.args.screen in
     rootless_laid_out tree screen c.args.document.0
-    (rootless_here tree c.root.ensures.framed screen c.args.document.0 c.requires.active None (c.in_default-framed_size.ensures.value c.requires.around) refl)
+    (rootless_here tree c.root.ensures.framed screen c.args.document.0 c.requires.active None (c.in_default-framed_size.ensures.value c.requires.around c.requires.above) refl)
     c.args.boxes.now
+
+pub returns-in_default-clause-shown : goal.returns-in_default-clause-shown
+returns-in_default-clause-shown g c =
+    let tree = c.args.page.now.tree in
+    let screen = seen_screen c.args.screen in
+    let found = framed_size tree screen (view_of tree screen) (document_at tree c.args.document.0).frame in
+    let none = sym c.root.ensures.value ∙ ap (option_map number) c.in_default.is in
+    sym (rootless_here tree c.root.ensures.framed screen c.args.document.0 c.requires.active found refl (no_root (document_at tree c.args.document.0).root found none))
+
+pub returns-in_default-framed_size-clause-shown : goal.returns-in_default-framed_size-clause-shown
+returns-in_default-framed_size-clause-shown g c =
+    sym (rootless_here c.args.page.now.tree c.root.ensures.framed (seen_screen c.args.screen) c.args.document.0 c.requires.active None
+    (c.in_default-framed_size.ensures.value c.requires.around c.requires.above) refl)
+
+pub returns-clause-shown : goal.returns-clause-shown
+returns-clause-shown g c =
+    let tree = c.args.page.now.tree in
+    let pair = seen_pair c.in-Some-framed_size.size in
+    let shown = c.in-Some-framed_size.ensures.value c.requires.around c.requires.above in
+    let rooted = sym c.root.ensures.value ∙ ap (option_map number) c.in-Some.is in
+    sym (ap (λ (view : View). view.root) (view_shown tree c.root.ensures.framed (seen_screen c.args.screen) c.args.document.0 c.requires.active pair shown
+    (layout_tree style_in kind_in c.tree.result.now.nodes) c.tree.ensures.nodes c.in-Some.root.0 rooted))
 
 -- the tree of its root element
 pub refresh-requires-clause-node : goal.refresh-requires-clause-node
@@ -53,7 +76,7 @@ returns-clause-laid_out g c =
     let framed = c.root.ensures.framed in
     let screen = seen_screen c.args.screen in
     let pair = seen_pair c.in-Some-framed_size.size in
-    let shown = c.in-Some-framed_size.ensures.value c.requires.around in
+    let shown = c.in-Some-framed_size.ensures.value c.requires.around c.requires.above in
     let at = layout_tree style_in kind_in c.tree.result.now.nodes in
     let rooted = sym c.root.ensures.value ∙ ap (option_map number) c.in-Some.is in
     let ready = ready_before tree framed screen c.args.document.0 c.requires.active pair shown at c.tree.ensures.nodes c.in-Some.root.0 rooted
@@ -67,7 +90,7 @@ returns-clause-others g c =
     let framed = c.root.ensures.framed in
     let screen = seen_screen c.args.screen in
     let pair = seen_pair c.in-Some-framed_size.size in
-    let shown = c.in-Some-framed_size.ensures.value c.requires.around in
+    let shown = c.in-Some-framed_size.ensures.value c.requires.around c.requires.above in
     let at = layout_tree style_in kind_in c.tree.result.now.nodes in
     let rooted = sym c.root.ensures.value ∙ ap (option_map number) c.in-Some.is in
     others_here tree framed screen c.args.document.0 c.requires.active pair shown at c.tree.ensures.nodes c.in-Some.root.0 rooted
@@ -79,7 +102,7 @@ returns-clause-left g c =
     let framed = c.root.ensures.framed in
     let screen = seen_screen c.args.screen in
     let pair = seen_pair c.in-Some-framed_size.size in
-    let shown = c.in-Some-framed_size.ensures.value c.requires.around in
+    let shown = c.in-Some-framed_size.ensures.value c.requires.around c.requires.above in
     let at = layout_tree style_in kind_in c.tree.result.now.nodes in
     let rooted = sym c.root.ensures.value ∙ ap (option_map number) c.in-Some.is in
     left_here tree framed screen c.args.document.0 c.requires.active pair shown at c.tree.ensures.nodes c.in-Some.root.0 rooted
@@ -91,7 +114,7 @@ returns-clause-unboxed g c =
     let framed = c.root.ensures.framed in
     let screen = seen_screen c.args.screen in
     let pair = seen_pair c.in-Some-framed_size.size in
-    let shown = c.in-Some-framed_size.ensures.value c.requires.around in
+    let shown = c.in-Some-framed_size.ensures.value c.requires.around c.requires.above in
     let at = layout_tree style_in kind_in c.tree.result.now.nodes in
     let rooted = sym c.root.ensures.value ∙ ap (option_map number) c.in-Some.is in
     unboxed_here tree framed screen c.args.document.0 c.requires.active pair shown at c.tree.ensures.nodes c.in-Some.root.0 rooted
@@ -103,7 +126,7 @@ returns-clause-kept g c =
     let framed = c.root.ensures.framed in
     let screen = seen_screen c.args.screen in
     let pair = seen_pair c.in-Some-framed_size.size in
-    let shown = c.in-Some-framed_size.ensures.value c.requires.around in
+    let shown = c.in-Some-framed_size.ensures.value c.requires.around c.requires.above in
     let at = layout_tree style_in kind_in c.tree.result.now.nodes in
     let rooted = sym c.root.ensures.value ∙ ap (option_map number) c.in-Some.is in
     let ready = ready_before tree framed screen c.args.document.0 c.requires.active pair shown at c.tree.ensures.nodes c.in-Some.root.0 rooted
@@ -117,7 +140,7 @@ returns-clause-ticks g c =
     let framed = c.root.ensures.framed in
     let screen = seen_screen c.args.screen in
     let pair = seen_pair c.in-Some-framed_size.size in
-    let shown = c.in-Some-framed_size.ensures.value c.requires.around in
+    let shown = c.in-Some-framed_size.ensures.value c.requires.around c.requires.above in
     let at = layout_tree style_in kind_in c.tree.result.now.nodes in
     let rooted = sym c.root.ensures.value ∙ ap (option_map number) c.in-Some.is in
     let ready = ready_before tree framed screen c.args.document.0 c.requires.active pair shown at c.tree.ensures.nodes c.in-Some.root.0 rooted
@@ -138,7 +161,7 @@ pub returns-clause-fills : goal.returns-clause-fills
 returns-clause-fills g c =
     let tree = c.args.page.now.tree in
     let pair = seen_pair c.in-Some-framed_size.size in
-    let shown = c.in-Some-framed_size.ensures.value c.requires.around in
+    let shown = c.in-Some-framed_size.ensures.value c.requires.around c.requires.above in
     let at = layout_tree style_in kind_in c.tree.result.now.nodes in
     let rooted = sym c.root.ensures.value ∙ ap (option_map number) c.in-Some.is in
     let ready = ready_before tree c.root.ensures.framed (seen_screen c.args.screen) c.args.document.0 c.requires.active pair shown at c.tree.ensures.nodes c.in-Some.root.0 rooted

@@ -1,7 +1,7 @@
 use Rattle.std.proofs.Common.{◌≡◌, ◌<◌, ◌+◌, ℕ, true, length}
 use Rattle.page_model.specs.Documents.{is_active}
 use Rattle.page_boxes.specs.Kept.{AreKept, FillsOnly, LeavesUnboxed, due_count}
-use Rattle.page_boxes.specs.LaidOut.{is_marked, AreLaidOut}
+use Rattle.page_boxes.specs.LaidOut.{is_marked, IsSoFar}
 use Rattle.page_boxes.specs.Pages.{seen_screen}
 use Rattle.page_boxes.proofs.layout.refresh.Given as goal
 
@@ -11,8 +11,7 @@ invariant-loop-document g l = record {
   slots : length l.boxes ≡ length l.initial.boxes;
   fills : FillsOnly l.initial.boxes l.boxes;
   unboxed : LeavesUnboxed l.page.tree (seen_screen l.screen) l.initial.boxes l.boxes;
-  count : length l.laid_out ≡ 64;
-  laid_out : AreLaidOut l.page.tree (seen_screen l.screen) l.laid_out l.boxes;
-  marked : (document : ℕ) → document < l.document → is_active l.page.tree document ≡ true → is_marked l.laid_out document ≡ true;
+  so_far : IsSoFar l.page.tree (seen_screen l.screen) l.laid_out l.boxes;
+  marked : (document : ℕ) → document < l.document → is_active l.page.tree document ≡ true → is_marked l.laid_out.marks document ≡ true;
   ticks : l.steps + due_count l.page.tree (seen_screen l.screen) l.boxes ≡ l.initial.steps + due_count l.page.tree (seen_screen l.screen) l.initial.boxes;
 }

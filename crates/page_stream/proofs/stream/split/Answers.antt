@@ -1,7 +1,7 @@
 use Rattle.std.proofs.Common.{◌≡◌, ◌∙◌, refl, sym, ap, subst, ℕ, ◌<◌, length, ◌≤◌, None, Some, zero-add, arith, rules}
 use Rattle.std.proofs.lemmas.Bool.{true≢false}
-use Rattle.trace_summary.specs.Lines.{first_line}
-use Rattle.trace_summary.proofs.Splits.{behind_shorter}
+use Rattle.text_lines.specs.Lines.{first_line}
+use Rattle.text_lines.proofs.Splits.{behind_shorter}
 use Rattle.page_stream.specs.PageLines.{page_named}
 use Rattle.page_stream.specs.Splits.{SplitTo}
 use Rattle.page_stream.proofs.Taken.{nothing_taken, page_taken, one_past, none_past, all_pages, all_parts, few_lines, is_a_stream, no_stream, stream_some}

@@ -1,6 +1,8 @@
 use Rattle.page_state.specs.Views.{PageView}
 use Rattle.run_replies.proofs.Telling.{not_read_fault, not_usage, unfailed, write_fault_rose}
-use Rattle.replay_run.proofs.Unread.{reads_taken, reads_to_end, reads_world, unread_taken, unread_unfailed}
+use Rattle.run_replies.proofs.Taking.{failed_taken}
+use Rattle.script_replay.proofs.Ready.{ready_some}
+use Rattle.replay_run.proofs.Unread.{reads_refused, reads_taken, reads_to_end, reads_world}
 use Rattle.replay_run.proofs.call.perform_on_source.Goals as goal
 
 pub returns-in-Ok-clause-usage : goal.returns-in-Ok-clause-usage
@@ -21,11 +23,17 @@ returns-in-Ok-clause-write_fault g c = write_fault_rose c.perform_on_text.result
 pub returns-in-Ok-clause-unfailed_write : goal.returns-in-Ok-clause-unfailed_write
 returns-in-Ok-clause-unfailed_write g c = unfailed c.perform_on_text.result.status _ _ _ _ _ c.perform_on_text.ensures.tells
 
-pub returns-in-Err-clause-unfailed_read : goal.returns-in-Err-clause-unfailed_read
-returns-in-Err-clause-unfailed_read g c = rw c.without_page.ensures (unread_unfailed c.in-Err.status _ _ c.in-Err.ensures.cause)
+pub returns-in-Err-ReadFault-clause-read : goal.returns-in-Err-ReadFault-clause-read
+returns-in-Err-ReadFault-clause-read g c = rw c.without_page.ensures (failed_taken 16777217 _ _ c.in-Err-ReadFault.ensures.at_most)
 
-pub returns-in-Err-clause-read : goal.returns-in-Err-clause-read
-returns-in-Err-clause-read g c = rw c.without_page.ensures (unread_taken c.in-Err.status _ _ _ _ c.in-Err.ensures.cause c.in-Err.ensures.at_most)
+pub returns-in-Err-Memory-clause-read : goal.returns-in-Err-Memory-clause-read
+returns-in-Err-Memory-clause-read g c = rw c.without_page-in-Err-Memory.ensures (failed_taken 16777217 _ _ c.in-Err-Memory.ensures.at_most)
 
 pub returns-in-Ok-clause-world : goal.returns-in-Ok-clause-world
 returns-in-Ok-clause-world g c = reads_world (λ (page : PageView). page.world) c.perform_on_text.result.page _ _ _ c.in-Ok.ensures.read c.perform_on_text.ensures.world
+
+pub returns-in-Ok-clause-ready : goal.returns-in-Ok-clause-ready
+returns-in-Ok-clause-ready g c = ready_some _ c.perform_on_text.result.page c.perform_on_text.ensures.ready
+
+pub returns-in-Ok-clause-refused_steps : goal.returns-in-Ok-clause-refused_steps
+returns-in-Ok-clause-refused_steps g c = reads_refused _ _ _ _ _ c.in-Ok.ensures.read c.perform_on_text.ensures.refused_steps

@@ -1,11 +1,11 @@
 use Rattle.run_replies.proofs.Taking.{failed_taken, taken_past}
 use Rattle.run_replies.proofs.Telling.{unfailed}
-use Rattle.replay_run.proofs.Judged.{ends_past, ends_whole, taken_whole}
+use Rattle.replay_run.proofs.Judged.{judged_refused, ends_past, ends_whole, taken_whole}
 use Rattle.replay_run.proofs.judging.judge_source.Goals as goal
 
 pub returns-in-Ok-clause-ends : goal.returns-in-Ok-clause-ends
 returns-in-Ok-clause-ends g c =
-    ends_whole c.judge_recorded.result _ _ _ _ _ _ _ _ c.in-Ok.ensures.divided c.in-Ok.ensures.end c.judge_recorded.ensures
+    ends_whole c.judge_recorded.result _ _ _ _ _ _ _ _ c.in-Ok.ensures.divided c.in-Ok.ensures.end c.judge_recorded.ensures.tells
 
 pub returns-in-Ok-clause-read : goal.returns-in-Ok-clause-read
 returns-in-Ok-clause-read g c = taken_whole c.judge_recorded.result _ _ c.in-Ok.ensures.end
@@ -26,7 +26,7 @@ pub returns-in-Err-clause-read : goal.returns-in-Err-clause-read
 returns-in-Err-clause-read g c = failed_taken 67108865 _ _ c.in-Err.ensures.at_most
 
 pub returns-in-Ok-clause-unfailed_write : goal.returns-in-Ok-clause-unfailed_write
-returns-in-Ok-clause-unfailed_write g c = unfailed c.judge_recorded.result _ _ _ _ _ c.judge_recorded.ensures
+returns-in-Ok-clause-unfailed_write g c = unfailed c.judge_recorded.result _ _ _ _ _ c.judge_recorded.ensures.tells
 
 pub returns-in-Err-TooLong-clause-unfailed_read : goal.returns-in-Err-TooLong-clause-unfailed_read
 returns-in-Err-TooLong-clause-unfailed_read g c =
@@ -34,3 +34,6 @@ returns-in-Err-TooLong-clause-unfailed_read g c =
 
 pub returns-in-Err-TooLong-clause-unfailed_write : goal.returns-in-Err-TooLong-clause-unfailed_write
 returns-in-Err-TooLong-clause-unfailed_write g c = unfailed c.meet_limit.result _ _ _ _ _ c.meet_limit.ensures.tells
+
+pub returns-in-Ok-clause-refused_steps : goal.returns-in-Ok-clause-refused_steps
+returns-in-Ok-clause-refused_steps g c = judged_refused _ _ _ _ _ c.in-Ok.ensures.divided c.judge_recorded.ensures.refused_steps

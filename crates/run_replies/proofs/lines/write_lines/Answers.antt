@@ -1,6 +1,6 @@
 use Rattle.std.proofs.Common.{◌<◌, ◌≤◌, ap, length, arith, rules}
 use Rattle.trace_summary.proofs.Rows.{writing_none}
-use Rattle.trace_summary.proofs.Splits.{behind_shorter}
+use Rattle.text_lines.proofs.Splits.{behind_shorter}
 use Rattle.run_replies.proofs.Written.{line_written, line_failed, lines_written}
 use Rattle.run_replies.proofs.lines.write_lines.Goals as goal
 

@@ -1,5 +1,6 @@
 use Rattle.script_replay.proofs.Asking.{job_tells}
 use Rattle.script_replay.proofs.Jobs.{replay_tells, check_tells, lint_tells, print_tells}
+use Rattle.script_replay.proofs.Ready.{ready_page}
 use Rattle.script_replay.proofs.Stopped.{sight_tells}
 use Rattle.script_replay.proofs.script.perform.Goals as goal
 
@@ -23,3 +24,9 @@ returns-in-Print-clause-tells g c = job_tells c.write_script.result _ _ _ _ _ _ 
 pub returns-in-AtTick-clause-tells : goal.returns-in-AtTick-clause-tells
 returns-in-AtTick-clause-tells g c =
     job_tells c.write_sight.result _ _ _ _ _ _ _ c.in-AtTick.is (sight_tells c.write_sight.result c.in-AtTick.sight c.in-AtTick.number _ _ _ _ _ c.write_sight.ensures)
+
+pub returns-in-Replay-clause-ready : goal.returns-in-Replay-clause-ready
+returns-in-Replay-clause-ready g c = ready_page c.args.script.now c.run_script.result.page c.run_script.ensures.world
+
+pub returns-in-Summary-clause-ready : goal.returns-in-Summary-clause-ready
+returns-in-Summary-clause-ready g c = ready_page c.args.script.now c.summarize.result.page c.summarize.ensures.world

@@ -1,10 +1,7 @@
 use Rattle.std.proofs.Common.{refl}
-use Rattle.trace_runs.proofs.Writes.{no_part}
+use Rattle.trace_runs.proofs.Writes.{no_line}
 use Rattle.script_replay.proofs.Asking.{refusal_tells}
 use Rattle.script_replay.proofs.script.refuse_text.Goals as goal
-
-pub meet_limit-requires : goal.meet_limit-requires
-meet_limit-requires g c = rw c.in-ScriptLimit.is at c.requires
 
 pub returns-in-Syntax-clause-tells : goal.returns-in-Syntax-clause-tells
 returns-in-Syntax-clause-tells g c =
@@ -15,4 +12,4 @@ returns-in-ScriptLimit-clause-tells g c =
     λ job read is. refusal_tells c.meet_limit.result job _ read _ _ _ _ (rw c.in-ScriptLimit.is at is) c.meet_limit.ensures.tells
 
 pub returns-in-Memory-clause-tells : goal.returns-in-Memory-clause-tells
-returns-in-Memory-clause-tells g c = λ job read is. (no_part _ _, refl)
+returns-in-Memory-clause-tells g c = λ job read is. (no_line _ _, refl)

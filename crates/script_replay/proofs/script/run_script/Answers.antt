@@ -2,7 +2,7 @@ use Rattle.std.proofs.Common.{◌≡◌, ◌∙◌, ap, refl, sym}
 use Rattle.std.specs.Prelude.{Ok}
 use Rattle.page_model.specs.Outcome.{opening_world, outcome_read}
 use Rattle.page_state.specs.Views.{PageView}
-use Rattle.trace_runs.proofs.Writes.{no_part}
+use Rattle.trace_runs.proofs.Writes.{no_line}
 use Rattle.run_replies.specs.Statuses.{is_done}
 use Rattle.run_replies.proofs.Telling.{if_done}
 use Rattle.run_replies.proofs.Endings.{memory_answers}
@@ -23,4 +23,4 @@ returns-in-Ok-clause-world g c =
     c.run_on-status.ensures.world
 
 pub returns-in-Err-clause-answers : goal.returns-in-Err-clause-answers
-returns-in-Err-clause-answers g c = rw c.without_page.ensures (memory_answers _ _ refl _ _ _ (no_part _ _, refl))
+returns-in-Err-clause-answers g c = rw c.without_page.ensures (memory_answers _ _ refl _ _ _ (no_line _ _, refl))

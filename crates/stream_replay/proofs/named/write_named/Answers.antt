@@ -1,13 +1,12 @@
 use Rattle.std.proofs.Common.{◌<◌, ◌≤◌, ap, length, arith, rules}
 use Rattle.std.specs.Prelude.{Ok, Err}
-use Rattle.trace_summary.proofs.Splits.{behind_shorter}
+use Rattle.text_lines.proofs.Splits.{behind_shorter}
 use Rattle.stream_replay.specs.NamedTexts.{named_lines}
-use Rattle.stream_replay.proofs.NamedLines.{stopped, named_more, named_cut, named_end, named_wrote}
+use Rattle.stream_replay.proofs.NamedLines.{stopped, naming_none, named_more, named_cut, named_end, named_wrote}
 use Rattle.stream_replay.proofs.named.write_named.Goals as goal
-use Rattle.trace_summary.proofs.Rows.{writing_none}
 
 pub loop-rest-init : goal.loop-rest-init
-loop-rest-init g c = writing_none _ _ _
+loop-rest-init g c = naming_none _ _ _ _
 
 pub loop-rest-preserved : goal.loop-rest-preserved
 loop-rest-preserved g c =

@@ -2,7 +2,7 @@ use Rattle.std.proofs.Common.{◌∙◌, ap, refl, sym, subst, List, ℕ, [], �
 use Rattle.std.specs.Io.KnownBytes.{Appends}
 use Rattle.script_model.specs.Reading.{SyntaxAt, LimitAt, reading}
 use Rattle.script_model.specs.TraceLines.{LimitLine}
-use Rattle.trace_runs.specs.Writes.{Wrote}
+use Rattle.trace_runs.specs.Writes.{EndsLine, Wrote}
 use Rattle.stream_runs.specs.Alone.{IsOneLine}
 use Rattle.stream_runs.specs.StreamRuns.{named_text}
 use Rattle.trace_runs.proofs.Writes.{nothing}
@@ -12,6 +12,7 @@ use Rattle.stream_replay.proofs.side_by_side.open_page.Goals as goal
 pub returns-in-Ok-clause-wrote : goal.returns-in-Ok-clause-wrote
 returns-in-Ok-clause-wrote g c =
     then_wrote c.add_page.result _ _ _ _ _ c.add_page.ensures.err
+    (subst (λ (text : List ℕ). EndsLine text) (sym (refused_none c.args.name (reading c.args.text) _ c.in-Ok.ensures.value)) tt)
     (subst (λ (text : List ℕ). Appends (g.K.Sink.taken c.args.sink.now) (g.K.Sink.taken c.args.sink.now) text) (sym (refused_none c.args.name (reading c.args.text) _ c.in-Ok.ensures.value)) (nothing (g.K.Sink.taken c.args.sink.now))) refl
 
 pub returns-in-Err-Syntax-clause-wrote : goal.returns-in-Err-Syntax-clause-wrote

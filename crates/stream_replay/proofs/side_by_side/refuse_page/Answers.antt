@@ -1,7 +1,7 @@
 use Rattle.std.proofs.Common.{◌∙◌, ◌++◌, ap, sym, subst, List, ℕ, [], ◌∷◌}
 use Rattle.trace_text.specs.Seen.{seen_line}
 use Rattle.trace_summary.specs.Counts.{IsTrace}
-use Rattle.trace_summary.specs.Gathered.{Gathered}
+use Rattle.text_lines.specs.Gathered.{Gathered}
 use Rattle.run_replies.proofs.Summaries.{gathered_trace}
 use Rattle.stream_replay.specs.declared.stream_page.StreamPage.{StreamPage}
 use Rattle.stream_replay.specs.declared.stream_page.Standing.TheVariants.{Refused}

@@ -1,5 +1,5 @@
 use Rattle.std.proofs.Common.{◌∙◌, ◌<◌, ◌≤◌, sym, ap, length, arith, rules}
-use Rattle.trace_summary.proofs.Splits.{behind_shorter}
+use Rattle.text_lines.proofs.Splits.{behind_shorter}
 use Rattle.trace_judge.proofs.Judged.{left_some, judged_equal, judged_other, lines_differ, lines_agree, judging_more}
 use Rattle.trace_judge.proofs.comparison.judge.Goals as goal
 

@@ -23,9 +23,12 @@ returns-in_err-_node-clause-refused c =
     (c.is_full_of_documents.ensures ∙ ap (λ (laid : LaidElements). not (has_document_room laid.elements)) c.self.view_is) c.if-is_full_of_documents.false c.from_residual.result (search rules)
 
 pub invariant_of-self : goal.invariant_of-self
-invariant_of-self c =
-    kept_made c.self-2.inside.page c.make_frame.new.self c.self-2.inside.boxes c.self-2.invariant
-    (with_frame c.args.document.0 (c.self-2.inside.page.tree)) _
-    (room_is c.self-2.inside.page c.self-2.inside.boxes (ap (λ (laid : LaidElements). laid.elements.ready) c.self-2.view_is ∙ c.in_ok-_node.ensures.ready))
-    (alone_frame c.args.document.0 (c.self-2.inside.page.tree))
-    c.make_frame.result c.make_frame.ensures.made c.make_frame.ensures.count c.make_frame.ensures.changes c.make_frame.ensures.same
+invariant_of-self c = record {
+  kept =
+      kept_made c.self-2.inside.page c.make_frame.new.self c.self-2.inside.boxes c.self-2.invariant.kept
+      (with_frame c.args.document.0 (c.self-2.inside.page.tree)) _
+      (room_is c.self-2.inside.page c.self-2.inside.boxes (ap (λ (laid : LaidElements). laid.elements.ready) c.self-2.view_is ∙ c.in_ok-_node.ensures.ready))
+      (alone_frame c.args.document.0 (c.self-2.inside.page.tree))
+      c.make_frame.result c.make_frame.ensures.made c.make_frame.ensures.count c.make_frame.ensures.changes c.make_frame.ensures.same;
+  current = tt;
+}

@@ -17,7 +17,7 @@ pub returns-clause-gathered : goal.returns-clause-gathered
 returns-clause-gathered g c =
     let p = record (c.self.inside) { laid = c.refresh.new.self } in
     ap (λ (it : HeldObservers). record (view_of p) { world = record (world_of p) { resize_observers = it.part } }) (c.gather.ensures.gathered
-    ∙ ap (λ (s : Shown). record (c.self.inside.observers) { part = gathering (sight_in s.tree s.screen) c.args.document.0 c.args.depth (c.self.inside.observers.part) }) (c.with_views-sizes.ensures ∙ c.shown_now.ensures))
+    ∙ ap (λ (s : Shown). record (c.self.inside.observers) { part = gathering (sight_in s.tree s.screen) c.args.document.0 c.args.depth (c.self.inside.observers.part) }) c.sizes_now-sizes.ensures)
     ∙ ap (λ (world : World). record (view_of p) { world = world }) (gathers c.args.document.0 c.args.depth (world_of p))
     ∙ ap (λ (v : PageView). record v { world = gather c.args.document.0 c.args.depth (v.world) })
     (view_refreshed c.self.inside c.refresh.new.self c.refresh.ensures.same c.args.self.now c.self.view_is)

@@ -2,8 +2,7 @@
 use Rattle.std.proofs.Common.{rules}
 use Rattle.page_model.specs.World.{Notify}
 use Rattle.page_laws.specs.Ready.{with_first}
-use Rattle.page_laws.proofs.Ready.{ready-next}
-use Rattle.page_state.proofs.Ready.{ready_by, notify_begun, notify_refused}
+use Rattle.page_state.proofs.Ready.{ready_by, notify_begun}
 use Rattle.page_state.proofs.page.Page.notify_list.Goals as goal
 
 pub returns-clause-cleared : goal.returns-clause-cleared
@@ -12,7 +11,3 @@ returns-clause-cleared c = search rules
 pub returns-clause-ready : goal.returns-clause-ready
 returns-clause-ready c = λ handlers.
     ready_by handlers (with_first (Notify c.args.document.0) c.args.self.now.world) (returns-clause-cleared c) (notify_begun c.args.self.now.world c.args.document.0)
-
-pub returns-in_err-list-clause-ready : goal.returns-in_err-list-clause-ready
-returns-in_err-list-clause-ready c = λ handlers ready.
-    ready-next handlers (with_first (Notify c.args.document.0) c.args.self.now.world) ready c.args.self.now.world (notify_refused c.args.self.now.world c.args.document.0)

@@ -1,206 +1,167 @@
 -- Intersections are updated, and a task that tells it waits.
-use Rattle.std.proofs.Common.{◌≡◌, ◌<◌, ◌≤◌, ◌+◌, List, length, inl, inr, sym, ap, subst, ◌∙◌, arith, rules, tests}
-use Rattle.script_model.specs.Margins.{Margins}
-use Rattle.page_model.specs.World.{World, Tree}
-use Rattle.page_model.specs.Shown.{Shown}
-use Rattle.page_model.specs.Intersections.{update_intersections}
-use Rattle.intersection_observer.specs.Watchers.{HeldWatchers}
+use Rattle.std.proofs.Common.{◌≡◌, ◌≤◌, ◌+◌, false, List, inl, refl, sym, ap, subst, ◌∙◌, arith}
+use Rattle.page_model.specs.World.{World, IntersectionObservers}
+use Rattle.page_model.specs.Shown.{shown_of}
+use Rattle.clip_chain.specs.Worlds.{scene_of}
+use Rattle.kept_clips.proofs.Looking.{changes_none}
+use Rattle.kept_findings.specs.Held.{HeldFindings}
+use Rattle.kept_layout.specs.declared.slots.Slot.{Slot}
 use Rattle.intersection_update.specs.Keeping.{HaveChains, IsRefused}
 use Rattle.intersection_update.specs.Steps.{most_steps}
-use Rattle.intersection_update.specs.Updating.{updated, has_news, AreSettled, IsStopped}
-use Rattle.event_tables.specs.Tasks.{WaitingTasks}
-use Rattle.page_boxes.specs.Kept.{LeavesUnboxed}
+use Rattle.intersection_update.specs.Updating.{has_news, AreSettled, IsStopped}
+use Rattle.page_boxes.specs.Kept.{FillsOnly, LeavesUnboxed}
+use Rattle.page_boxes.proofs.Undue.{fills_none}
+use Rattle.page_laws.proofs.Changes.{same-next, update-next}
 use Rattle.page_state.specs.Boxes.{due_count}
-use Rattle.page_state.specs.Findings.{Updates, AreUpdated}
+use Rattle.page_state.specs.Findings.{Updates, AreUpdated, TakesAtMost, settled_now}
+use Rattle.page_state.specs.Notices.{IsNoticed, once_told}
 use Rattle.page_state.specs.Views.{PageView}
-use Rattle.page_state.specs.Worlds.{world_of, view_of}
-use Rattle.page_state.proofs.Laid.{view_refreshed}
-use Rattle.page_state.proofs.Updated.{not_told, still_told, now_told, at_world, if_refused, stopped_last}
-use Rattle.page_laws.proofs.Changes.{update-next}
-use Rattle.page_state.proofs.Ready.{ready_by, update_stopped}
-use Rattle.page_state.proofs.page.Page.update_intersections.Goals.{then-not-queued-via-then-not-queued, then-not-queued-via-else-not-queued+then-get}
+use Rattle.page_state.proofs.Updated.{now, world_queued, page_told, without_task, comes_to, moved, same_observers, none_lost, if_refused}
+use Rattle.page_state.proofs.Ready.{ready_by, stopped_told}
 use Rattle.page_state.proofs.page.Page.update_intersections.Goals as goal
 
-pub returns-then-not-queued-clause-updated : goal.returns-then-not-queued-clause-updated
-returns-then-not-queued-clause-updated g c =
-    let p = record (c.self.inside) { laid = c.refresh.new.self } in
-    let view_is = view_refreshed c.self.inside c.refresh.new.self c.refresh.ensures.same c.args.self.now c.self.view_is in
-    let is = c.in_ok-queued.ensures.updated
-    ∙ (λ i. record (p.watchers) { part = updated (c.shown_at_once-shown.ensures i) (c.as_slice.ensures.value i) ((c.shown_at_once-shown.ensures i).tree) c.args.document.0 (p.clock) (p.watchers.part) }) in
-    let news = c.in_ok-queued.ensures.queued
-    ∙ (λ i. has_news ((c.shown_at_once-shown.ensures i).tree) c.args.document.0 p.watchers.part
-    (updated (c.shown_at_once-shown.ensures i) (c.as_slice.ensures.value i) ((c.shown_at_once-shown.ensures i).tree) c.args.document.0 (p.clock) (p.watchers.part))) in
-    let same : world_of (record p { watchers = c.update.new.watchers }) ≡ update_intersections c.args.document.0 (world_of p) = elim c.then-not-queued.branch [
-      | then-not-queued-via-then-not-queued w ↦ not_told p c.args.document.0 c.update.new.watchers c.in_ok-queued.queued is news (grind (arith, tests, w.if-not-queued.true))
-      | then-not-queued-via-else-not-queued+then-get w ↦ still_told p c.args.document.0 c.update.new.watchers c.in_ok-queued.queued is news (sym w.get.ensures ∙ w.if-get.true)
-    ] in
-    ap (λ (world : World). record (view_of p) { world = world; found = c.update.new.findings }) same
-    ∙ ap (λ (v : PageView). record v { world = update_intersections c.args.document.0 (v.world); found = c.update.new.findings }) view_is
+-- the task was refused: nothing is changed
+pub returns-in_err-queued-clause-rest : goal.returns-in_err-queued-clause-rest
+returns-in_err-queued-clause-rest g c =
+    if_refused c.from_residual.result
+    (false, c.in_err-queued.ensures.same ∙ sym (λ i. record c.args.self.now { world = record (c.args.self.now.world) { intersection_observers = (c.in_err-queued.ensures.same i).world.intersection_observers }; kept = (c.in_err-queued.ensures.same i).kept; found = (c.in_err-queued.ensures.same i).found }))
 
-pub set-requires : goal.set-requires
-set-requires g c =
-    let there : c.args.document.0 < length c.self.inside.laid.elements.tree.documents = subst (λ (v : PageView). c.args.document.0 < length v.world.tree.documents) (sym c.self.view_is) c.requires in
-    let few : length c.self.inside.laid.elements.tree.documents ≤ 64 =
-    subst (λ (it : Tree). length it.documents ≤ 64) (c.page.ensures.tree ∙ (λ i. (c.refresh.ensures.same i).tree)) c.document_count-count.ensures.bound in
-    omega (arith, there, few)
-
-pub returns-clause-updated : goal.returns-clause-updated
-returns-clause-updated g c =
-    let p = record (c.self.inside) { laid = c.refresh.new.self } in
-    let view_is = view_refreshed c.self.inside c.refresh.new.self c.refresh.ensures.same c.args.self.now c.self.view_is in
-    let is = c.in_ok-queued.ensures.updated
-    ∙ (λ i. record (p.watchers) { part = updated (c.shown_at_once-shown.ensures i) (c.as_slice.ensures.value i) ((c.shown_at_once-shown.ensures i).tree) c.args.document.0 (p.clock) (p.watchers.part) }) in
-    let news = c.in_ok-queued.ensures.queued
-    ∙ (λ i. has_news ((c.shown_at_once-shown.ensures i).tree) c.args.document.0 p.watchers.part
-    (updated (c.shown_at_once-shown.ensures i) (c.as_slice.ensures.value i) ((c.shown_at_once-shown.ensures i).tree) c.args.document.0 (p.clock) (p.watchers.part))) in
-    ap (λ (world : World). record (view_of p) { world = world; found = c.update.new.findings })
-    (now_told p c.args.document.0 c.update.new.watchers c.in_ok-queued.queued is news (grind (arith, tests, c.if-not-queued.false)) (sym c.get.ensures ∙ c.if-get.false) c.push.new.self c.set.new.self
-    (ap (λ (it : WaitingTasks). it.part) c.in-Ok.ensures.queued) c.set.ensures)
-    ∙ ap (λ (v : PageView). record v { world = update_intersections c.args.document.0 (v.world); found = c.update.new.findings }) view_is
+pub returns-in_err-queued-clause-noticed : goal.returns-in_err-queued-clause-noticed
+returns-in_err-queued-clause-noticed g c = if_refused c.from_residual.result (λ before. subst (λ (v : PageView). IsNoticed c.args.document.0 v.world) (sym c.in_err-queued.ensures.same) before)
 
 pub returns-in_err-queued-clause-stopped : goal.returns-in_err-queued-clause-stopped
 returns-in_err-queued-clause-stopped g c =
     if_refused c.from_residual.result
-    (at_world c.self.inside c.refresh.new.self c.refresh.ensures.same c.args.self.now c.self.view_is c.shown_at_once-shown.ensures c.as_slice.ensures.value
-    (λ (s : Shown) (m : List Margins) (v : PageView). IsStopped s m s.tree c.args.document.0 v.world.clock v.world.intersection_observers c.update.new.watchers.part) c.in_err-queued.ensures.stopped)
+    (subst (λ (v : PageView). IsStopped (shown_of c.args.self.now.world) c.args.self.now.world.scroll_margins c.args.self.now.world.tree c.args.document.0 c.args.self.now.world.clock c.args.self.now.world.intersection_observers v.world.intersection_observers) (sym c.in_err-queued.ensures.same)
+    (record { number = 0; place = 0; rooted = inl refl; settled = refl }))
 
-pub returns-in_default-clause-stopped : goal.returns-in_default-clause-stopped
-returns-in_default-clause-stopped g c =
-    at_world c.self.inside c.refresh.new.self c.refresh.ensures.same c.args.self.now c.self.view_is c.shown_at_once-shown.ensures c.as_slice.ensures.value
-    (λ (s : Shown) (m : List Margins) (v : PageView). IsStopped s m s.tree c.args.document.0 v.world.clock v.world.intersection_observers c.update.new.watchers.part)
-    (stopped_last _ _ _ c.args.document.0 _ _ _ (ap (λ (it : HeldWatchers). it.part) c.in_ok-queued.ensures.updated))
+pub returns-in_err-queued-clause-boxes : goal.returns-in_err-queued-clause-boxes
+returns-in_err-queued-clause-boxes g c = subst (λ (v : PageView). FillsOnly c.args.self.now.kept v.kept) (sym c.in_err-queued.ensures.same) (fills_none c.args.self.now.kept)
+
+pub returns-in_err-queued-clause-unboxed : goal.returns-in_err-queued-clause-unboxed
+returns-in_err-queued-clause-unboxed g c = subst (λ (v : PageView). LeavesUnboxed c.args.self.now.world.tree c.args.self.now.world.viewports.screen c.args.self.now.kept v.kept) (sym c.in_err-queued.ensures.same) (λ n none. refl)
 
 pub returns-in_err-queued-clause-findings : goal.returns-in_err-queued-clause-findings
 returns-in_err-queued-clause-findings g c =
-    at_world c.self.inside c.refresh.new.self c.refresh.ensures.same c.args.self.now c.self.view_is c.shown_at_once-shown.ensures c.as_slice.ensures.value
-    (λ (s : Shown) (m : List Margins) (v : PageView). Updates s m c.args.document.0 v.world.intersection_observers v.found c.update.new.findings)
-    (record { touched = c.update.ensures.touched; left = c.update.ensures.left; kept = c.update.ensures.kept; others = c.update.ensures.others; pairs = c.update.ensures.pairs; computed = c.update.ensures.computed })
-
-pub returns-then-not-queued-clause-findings : goal.returns-then-not-queued-clause-findings
-returns-then-not-queued-clause-findings g c =
-    at_world c.self.inside c.refresh.new.self c.refresh.ensures.same c.args.self.now c.self.view_is c.shown_at_once-shown.ensures c.as_slice.ensures.value
-    (λ (s : Shown) (m : List Margins) (v : PageView). Updates s m c.args.document.0 v.world.intersection_observers v.found c.update.new.findings)
-    (record { touched = c.update.ensures.touched; left = c.update.ensures.left; kept = c.update.ensures.kept; others = c.update.ensures.others; pairs = c.update.ensures.pairs; computed = c.update.ensures.computed })
-
-pub returns-in_default-clause-findings : goal.returns-in_default-clause-findings
-returns-in_default-clause-findings g c =
-    at_world c.self.inside c.refresh.new.self c.refresh.ensures.same c.args.self.now c.self.view_is c.shown_at_once-shown.ensures c.as_slice.ensures.value
-    (λ (s : Shown) (m : List Margins) (v : PageView). Updates s m c.args.document.0 v.world.intersection_observers v.found c.update.new.findings)
-    (record { touched = c.update.ensures.touched; left = c.update.ensures.left; kept = c.update.ensures.kept; others = c.update.ensures.others; pairs = c.update.ensures.pairs; computed = c.update.ensures.computed })
-
-pub returns-clause-findings : goal.returns-clause-findings
-returns-clause-findings g c =
-    at_world c.self.inside c.refresh.new.self c.refresh.ensures.same c.args.self.now c.self.view_is c.shown_at_once-shown.ensures c.as_slice.ensures.value
-    (λ (s : Shown) (m : List Margins) (v : PageView). Updates s m c.args.document.0 v.world.intersection_observers v.found c.update.new.findings)
-    (record { touched = c.update.ensures.touched; left = c.update.ensures.left; kept = c.update.ensures.kept; others = c.update.ensures.others; pairs = c.update.ensures.pairs; computed = c.update.ensures.computed })
-
-pub returns-then-not-queued-clause-settled : goal.returns-then-not-queued-clause-settled
-returns-then-not-queued-clause-settled g c =
-    at_world c.self.inside c.refresh.new.self c.refresh.ensures.same c.args.self.now c.self.view_is c.shown_at_once-shown.ensures c.as_slice.ensures.value
-    (λ (s : Shown) (m : List Margins) (v : PageView). AreSettled s m c.args.document.0 v.world.intersection_observers c.update.new.watchers.part) c.in_ok-queued.ensures.settled
-
-pub returns-then-not-queued-clause-fresh : goal.returns-then-not-queued-clause-fresh
-returns-then-not-queued-clause-fresh g c =
-    at_world c.self.inside c.refresh.new.self c.refresh.ensures.same c.args.self.now c.self.view_is c.shown_at_once-shown.ensures c.as_slice.ensures.value
-    (λ (s : Shown) (m : List Margins) (v : PageView). AreUpdated s m c.args.document.0 c.update.new.watchers.part c.update.new.findings)
-    (record { seen = c.in_ok-queued.ensures.seen; fresh = c.in_ok-queued.ensures.fresh; current = c.in_ok-queued.ensures.current })
-
-pub returns-then-not-queued-clause-ticks : goal.returns-then-not-queued-clause-ticks
-returns-then-not-queued-clause-ticks g c =
-    at_world c.self.inside c.refresh.new.self c.refresh.ensures.same c.args.self.now c.self.view_is c.shown_at_once-shown.ensures c.as_slice.ensures.value
-    (λ (s : Shown) (m : List Margins) (v : PageView). (chained : HaveChains s) →
-    c.update.new.steps + due_count v.world c.refresh.new.self.kept
-    ≤ c.args.steps.now + due_count v.world v.kept + most_steps s m chained c.args.document.0 (v.world.intersection_observers) v.found c.update.new.findings)
-    (λ chained. let registrations = c.update.ensures.ticks chained in let boxes = c.refresh.ensures.ticks in omega (arith, registrations, boxes))
-
-pub returns-clause-settled : goal.returns-clause-settled
-returns-clause-settled g c =
-    at_world c.self.inside c.refresh.new.self c.refresh.ensures.same c.args.self.now c.self.view_is c.shown_at_once-shown.ensures c.as_slice.ensures.value
-    (λ (s : Shown) (m : List Margins) (v : PageView). AreSettled s m c.args.document.0 v.world.intersection_observers c.update.new.watchers.part) c.in_ok-queued.ensures.settled
-
-pub returns-clause-fresh : goal.returns-clause-fresh
-returns-clause-fresh g c =
-    at_world c.self.inside c.refresh.new.self c.refresh.ensures.same c.args.self.now c.self.view_is c.shown_at_once-shown.ensures c.as_slice.ensures.value
-    (λ (s : Shown) (m : List Margins) (v : PageView). AreUpdated s m c.args.document.0 c.update.new.watchers.part c.update.new.findings)
-    (record { seen = c.in_ok-queued.ensures.seen; fresh = c.in_ok-queued.ensures.fresh; current = c.in_ok-queued.ensures.current })
-
-pub returns-clause-ticks : goal.returns-clause-ticks
-returns-clause-ticks g c =
-    at_world c.self.inside c.refresh.new.self c.refresh.ensures.same c.args.self.now c.self.view_is c.shown_at_once-shown.ensures c.as_slice.ensures.value
-    (λ (s : Shown) (m : List Margins) (v : PageView). (chained : HaveChains s) →
-    c.update.new.steps + due_count v.world c.refresh.new.self.kept
-    ≤ c.args.steps.now + due_count v.world v.kept + most_steps s m chained c.args.document.0 (v.world.intersection_observers) v.found c.update.new.findings)
-    (λ chained. let registrations = c.update.ensures.ticks chained in let boxes = c.refresh.ensures.ticks in omega (arith, registrations, boxes))
-
-pub returns-in_err-queued-clause-ticks : goal.returns-in_err-queued-clause-ticks
-returns-in_err-queued-clause-ticks g c =
-    at_world c.self.inside c.refresh.new.self c.refresh.ensures.same c.args.self.now c.self.view_is c.shown_at_once-shown.ensures c.as_slice.ensures.value
-    (λ (s : Shown) (m : List Margins) (v : PageView). (chained : HaveChains s) →
-    c.update.new.steps + due_count v.world c.refresh.new.self.kept
-    ≤ c.args.steps.now + due_count v.world v.kept + most_steps s m chained c.args.document.0 (v.world.intersection_observers) v.found c.update.new.findings)
-    (λ chained. let registrations = c.update.ensures.ticks chained in let boxes = c.refresh.ensures.ticks in omega (arith, registrations, boxes))
-
-pub returns-in_default-clause-ticks : goal.returns-in_default-clause-ticks
-returns-in_default-clause-ticks g c =
-    at_world c.self.inside c.refresh.new.self c.refresh.ensures.same c.args.self.now c.self.view_is c.shown_at_once-shown.ensures c.as_slice.ensures.value
-    (λ (s : Shown) (m : List Margins) (v : PageView). (chained : HaveChains s) →
-    c.update.new.steps + due_count v.world c.refresh.new.self.kept
-    ≤ c.args.steps.now + due_count v.world v.kept + most_steps s m chained c.args.document.0 (v.world.intersection_observers) v.found c.update.new.findings)
-    (λ chained. let registrations = c.update.ensures.ticks chained in let boxes = c.refresh.ensures.ticks in omega (arith, registrations, boxes))
+    subst (λ (v : PageView). Updates (shown_of c.args.self.now.world) c.args.self.now.world.scroll_margins c.args.document.0 c.args.self.now.world.intersection_observers c.args.self.now.found v.found) (sym c.in_err-queued.ensures.same)
+    (record {
+      touched = changes_none (scene_of (shown_of c.args.self.now.world)) c.args.self.now.found.seen c.args.self.now.found.clips.touches;
+      left = λ spot off. record { touch = refl; sighting = refl };
+      kept = λ chained serial fresh. refl;
+      others = λ serial apart. refl;
+      pairs = λ serial apart. refl;
+      computed = λ serial some. some;
+    })
 
 pub returns-in_err-queued-clause-refused : goal.returns-in_err-queued-clause-refused
 returns-in_err-queued-clause-refused g c = λ chained.
     if_refused c.from_residual.result
-    (inl
-    (at_world c.self.inside c.refresh.new.self c.refresh.ensures.same c.args.self.now c.self.view_is c.shown_at_once-shown.ensures c.as_slice.ensures.value
-    (λ (s : Shown) (m : List Margins) (v : PageView). (chained : HaveChains s) → IsRefused s m chained c.args.document.0 v.world.clock v.world.intersection_observers c.update.new.watchers.part v.found.kept c.update.new.findings.kept)
-    c.in_err-queued.ensures.refused chained))
+    (subst (λ (v : PageView). IsRefused (shown_of c.args.self.now.world) c.args.self.now.world.scroll_margins chained c.args.document.0 c.args.self.now.world.clock c.args.self.now.world.intersection_observers v.world.intersection_observers c.args.self.now.found.kept v.found.kept) (sym c.in_err-queued.ensures.same)
+    (record { stopped = record { number = 0; place = 0; rooted = inl refl; settled = refl }; rest = λ serial. inl refl }))
 
-pub returns-in_default-clause-refused : goal.returns-in_default-clause-refused
-returns-in_default-clause-refused g c = λ chained.
-    inr
-    (at_world c.self.inside c.refresh.new.self c.refresh.ensures.same c.args.self.now c.self.view_is c.shown_at_once-shown.ensures c.as_slice.ensures.value
-    (λ (s : Shown) (m : List Margins) (v : PageView). AreUpdated s m c.args.document.0 c.update.new.watchers.part c.update.new.findings)
-    (record { seen = c.in_ok-queued.ensures.seen; fresh = c.in_ok-queued.ensures.fresh; current = c.in_ok-queued.ensures.current }))
-
-pub returns-then-not-queued-clause-ready : goal.returns-then-not-queued-clause-ready
-returns-then-not-queued-clause-ready g c = λ handlers.
-    ready_by handlers c.args.self.now.world (returns-then-not-queued-clause-updated g c) (update-next c.args.document.0 c.args.self.now.world c.requires)
-
-pub returns-clause-ready : goal.returns-clause-ready
-returns-clause-ready g c = λ handlers.
-    ready_by handlers c.args.self.now.world (returns-clause-updated g c) (update-next c.args.document.0 c.args.self.now.world c.requires)
+pub returns-in_err-queued-clause-ticks : goal.returns-in_err-queued-clause-ticks
+returns-in_err-queued-clause-ticks g c =
+    subst (λ (v : PageView). (chained : HaveChains (shown_of c.args.self.now.world)) → TakesAtMost c.args.document.0 c.args.self.now v chained c.args.steps.now c.args.steps.now) (sym c.in_err-queued.ensures.same) (λ chained. omega arith)
 
 pub returns-in_err-queued-clause-ready : goal.returns-in_err-queued-clause-ready
-returns-in_err-queued-clause-ready g c = λ handlers.
-    ready_by handlers c.args.self.now.world
-    (ap (λ (v : PageView). record v { world = record (v.world) { intersection_observers = c.update.new.watchers.part }; found = c.update.new.findings })
-    (view_refreshed c.self.inside c.refresh.new.self c.refresh.ensures.same c.args.self.now c.self.view_is))
-    (update_stopped _ _ _ _ _ c.args.self.now.world c.update.new.watchers.part
-    (at_world c.self.inside c.refresh.new.self c.refresh.ensures.same c.args.self.now c.self.view_is c.shown_at_once-shown.ensures c.as_slice.ensures.value
-    (λ (s : Shown) (m : List Margins) (v : PageView). IsStopped s m s.tree c.args.document.0 v.world.clock v.world.intersection_observers c.update.new.watchers.part)
-    c.in_err-queued.ensures.stopped))
+returns-in_err-queued-clause-ready g c = λ handlers. ready_by handlers c.args.self.now.world c.in_err-queued.ensures.same (same-next c.args.self.now.world)
 
-pub returns-in_default-clause-rest : goal.returns-in_default-clause-rest
-returns-in_default-clause-rest g c = search rules
+pub returns-in-Ok-clause-boxes : goal.returns-in-Ok-clause-boxes
+returns-in-Ok-clause-boxes g c =
+    moved c.args.document.0 c.args.self.now c.in_ok-queued.queued c.in_ok-queued.ensures.task c.settle_intersections.ensures.rest c.in-Ok.tells (c.end_notice.ensures (now c.args.document.0 c.args.self.now c.in_ok-queued.queued c.in_ok-queued.ensures.task c.settle_intersections.ensures.rest) c.in_ok-queued.ensures.queued (world_queued c.args.document.0 c.args.self.now c.in_ok-queued.queued c.in_ok-queued.ensures.task c.settle_intersections.ensures.rest))
+    (λ (v : PageView) (it : IntersectionObservers) (kept : List Slot) (found : HeldFindings). FillsOnly v.kept kept)
+    (λ tasks holds. holds) c.settle_intersections.ensures.boxes
 
-pub returns-in_default-clause-ready : goal.returns-in_default-clause-ready
-returns-in_default-clause-ready g c = λ handlers.
-    ready_by handlers c.args.self.now.world (returns-in_default-clause-rest g c)
-    (update_stopped _ _ _ _ _ c.args.self.now.world _ (returns-in_default-clause-stopped g c))
+pub returns-in-Ok-clause-unboxed : goal.returns-in-Ok-clause-unboxed
+returns-in-Ok-clause-unboxed g c =
+    moved c.args.document.0 c.args.self.now c.in_ok-queued.queued c.in_ok-queued.ensures.task c.settle_intersections.ensures.rest c.in-Ok.tells (c.end_notice.ensures (now c.args.document.0 c.args.self.now c.in_ok-queued.queued c.in_ok-queued.ensures.task c.settle_intersections.ensures.rest) c.in_ok-queued.ensures.queued (world_queued c.args.document.0 c.args.self.now c.in_ok-queued.queued c.in_ok-queued.ensures.task c.settle_intersections.ensures.rest))
+    (λ (v : PageView) (it : IntersectionObservers) (kept : List Slot) (found : HeldFindings). LeavesUnboxed v.world.tree v.world.viewports.screen v.kept kept)
+    (λ tasks holds. holds) c.settle_intersections.ensures.unboxed
 
-pub returns-then-not-queued-clause-unboxed : goal.returns-then-not-queued-clause-unboxed
-returns-then-not-queued-clause-unboxed g c =
-    subst (λ (v : PageView). LeavesUnboxed v.world.tree v.world.viewports.screen v.kept c.refresh.new.self.kept) c.self.view_is c.refresh.ensures.unboxed
+pub returns-in-Ok-clause-findings : goal.returns-in-Ok-clause-findings
+returns-in-Ok-clause-findings g c =
+    moved c.args.document.0 c.args.self.now c.in_ok-queued.queued c.in_ok-queued.ensures.task c.settle_intersections.ensures.rest c.in-Ok.tells (c.end_notice.ensures (now c.args.document.0 c.args.self.now c.in_ok-queued.queued c.in_ok-queued.ensures.task c.settle_intersections.ensures.rest) c.in_ok-queued.ensures.queued (world_queued c.args.document.0 c.args.self.now c.in_ok-queued.queued c.in_ok-queued.ensures.task c.settle_intersections.ensures.rest))
+    (λ (v : PageView) (it : IntersectionObservers) (kept : List Slot) (found : HeldFindings). Updates (shown_of v.world) v.world.scroll_margins c.args.document.0 v.world.intersection_observers v.found found)
+    (λ tasks holds. holds) c.settle_intersections.ensures.findings
 
-pub returns-in_err-queued-clause-unboxed : goal.returns-in_err-queued-clause-unboxed
-returns-in_err-queued-clause-unboxed g c =
-    subst (λ (v : PageView). LeavesUnboxed v.world.tree v.world.viewports.screen v.kept c.refresh.new.self.kept) c.self.view_is c.refresh.ensures.unboxed
+pub returns-in-Ok-clause-ticks : goal.returns-in-Ok-clause-ticks
+returns-in-Ok-clause-ticks g c =
+    moved c.args.document.0 c.args.self.now c.in_ok-queued.queued c.in_ok-queued.ensures.task c.settle_intersections.ensures.rest c.in-Ok.tells (c.end_notice.ensures (now c.args.document.0 c.args.self.now c.in_ok-queued.queued c.in_ok-queued.ensures.task c.settle_intersections.ensures.rest) c.in_ok-queued.ensures.queued (world_queued c.args.document.0 c.args.self.now c.in_ok-queued.queued c.in_ok-queued.ensures.task c.settle_intersections.ensures.rest))
+    (λ (v : PageView) (it : IntersectionObservers) (kept : List Slot) (found : HeldFindings). (chained : HaveChains (shown_of v.world)) → c.settle_intersections.new.steps + due_count v.world kept ≤ c.args.steps.now + due_count v.world v.kept + most_steps (shown_of v.world) v.world.scroll_margins chained c.args.document.0 v.world.intersection_observers v.found found)
+    (λ tasks holds. holds) c.settle_intersections.ensures.ticks
 
-pub returns-in_default-clause-unboxed : goal.returns-in_default-clause-unboxed
-returns-in_default-clause-unboxed g c =
-    subst (λ (v : PageView). LeavesUnboxed v.world.tree v.world.viewports.screen v.kept c.refresh.new.self.kept) c.self.view_is c.refresh.ensures.unboxed
+pub returns-in-Ok-clause-updated : goal.returns-in-Ok-clause-updated
+returns-in-Ok-clause-updated g c =
+    page_told c.args.document.0 c.args.self.now c.in_ok-queued.queued c.in_ok-queued.ensures.task c.settle_intersections.ensures.rest c.in-Ok.tells (c.end_notice.ensures (now c.args.document.0 c.args.self.now c.in_ok-queued.queued c.in_ok-queued.ensures.task c.settle_intersections.ensures.rest) c.in_ok-queued.ensures.queued (world_queued c.args.document.0 c.args.self.now c.in_ok-queued.queued c.in_ok-queued.ensures.task c.settle_intersections.ensures.rest))
+    ∙ ap (λ (world : World). record c.args.self.now { world = world; kept = c.end_notice.new.self.kept; found = c.end_notice.new.self.found })
+    (ap (λ (it : IntersectionObservers). once_told c.in-Ok.tells c.args.document.0 (record (c.args.self.now.world) { intersection_observers = it }))
+    (without_task c.args.document.0 c.args.self.now c.in_ok-queued.queued c.in_ok-queued.ensures.task (λ v. c.settle_intersections.new.self.world.intersection_observers ≡ settled_now c.args.document.0 v.world) (λ tasks holds. holds) c.in-Ok.ensures.updated)
+    ∙ sym (comes_to c.args.document.0 (c.args.self.now.world) c.in-Ok.tells
+    (without_task c.args.document.0 c.args.self.now c.in_ok-queued.queued c.in_ok-queued.ensures.task (λ v. c.in-Ok.tells ≡ has_news v.world.tree c.args.document.0 v.world.intersection_observers (settled_now c.args.document.0 v.world)) (λ tasks holds. holds) c.in-Ok.ensures.queued)))
 
-pub returns-clause-unboxed : goal.returns-clause-unboxed
-returns-clause-unboxed g c =
-    subst (λ (v : PageView). LeavesUnboxed v.world.tree v.world.viewports.screen v.kept c.refresh.new.self.kept) c.self.view_is c.refresh.ensures.unboxed
+pub returns-in-Ok-clause-settled : goal.returns-in-Ok-clause-settled
+returns-in-Ok-clause-settled g c =
+    moved c.args.document.0 c.args.self.now c.in_ok-queued.queued c.in_ok-queued.ensures.task c.settle_intersections.ensures.rest c.in-Ok.tells (c.end_notice.ensures (now c.args.document.0 c.args.self.now c.in_ok-queued.queued c.in_ok-queued.ensures.task c.settle_intersections.ensures.rest) c.in_ok-queued.ensures.queued (world_queued c.args.document.0 c.args.self.now c.in_ok-queued.queued c.in_ok-queued.ensures.task c.settle_intersections.ensures.rest))
+    (λ (v : PageView) (it : IntersectionObservers) (kept : List Slot) (found : HeldFindings). AreSettled (shown_of v.world) v.world.scroll_margins c.args.document.0 v.world.intersection_observers it)
+    (λ tasks holds. holds) c.in-Ok.ensures.settled
+
+pub returns-in-Ok-clause-fresh : goal.returns-in-Ok-clause-fresh
+returns-in-Ok-clause-fresh g c =
+    moved c.args.document.0 c.args.self.now c.in_ok-queued.queued c.in_ok-queued.ensures.task c.settle_intersections.ensures.rest c.in-Ok.tells (c.end_notice.ensures (now c.args.document.0 c.args.self.now c.in_ok-queued.queued c.in_ok-queued.ensures.task c.settle_intersections.ensures.rest) c.in_ok-queued.ensures.queued (world_queued c.args.document.0 c.args.self.now c.in_ok-queued.queued c.in_ok-queued.ensures.task c.settle_intersections.ensures.rest))
+    (λ (v : PageView) (it : IntersectionObservers) (kept : List Slot) (found : HeldFindings). AreUpdated (shown_of v.world) v.world.scroll_margins c.args.document.0 it found)
+    (λ tasks holds. holds) c.in-Ok.ensures.fresh
+
+pub returns-in-Ok-clause-ready : goal.returns-in-Ok-clause-ready
+returns-in-Ok-clause-ready g c =
+    λ handlers. ready_by handlers c.args.self.now.world (returns-in-Ok-clause-updated g c) (update-next c.args.document.0 c.args.self.now.world c.requires)
+
+pub returns-in-Err-clause-boxes : goal.returns-in-Err-clause-boxes
+returns-in-Err-clause-boxes g c =
+    moved c.args.document.0 c.args.self.now c.in_ok-queued.queued c.in_ok-queued.ensures.task c.settle_intersections.ensures.rest c.has_entries-tells.result (c.end_notice-in-Err.ensures (now c.args.document.0 c.args.self.now c.in_ok-queued.queued c.in_ok-queued.ensures.task c.settle_intersections.ensures.rest) c.in_ok-queued.ensures.queued (world_queued c.args.document.0 c.args.self.now c.in_ok-queued.queued c.in_ok-queued.ensures.task c.settle_intersections.ensures.rest))
+    (λ (v : PageView) (it : IntersectionObservers) (kept : List Slot) (found : HeldFindings). FillsOnly v.kept kept)
+    (λ tasks holds. holds) c.settle_intersections.ensures.boxes
+
+pub returns-in-Err-clause-unboxed : goal.returns-in-Err-clause-unboxed
+returns-in-Err-clause-unboxed g c =
+    moved c.args.document.0 c.args.self.now c.in_ok-queued.queued c.in_ok-queued.ensures.task c.settle_intersections.ensures.rest c.has_entries-tells.result (c.end_notice-in-Err.ensures (now c.args.document.0 c.args.self.now c.in_ok-queued.queued c.in_ok-queued.ensures.task c.settle_intersections.ensures.rest) c.in_ok-queued.ensures.queued (world_queued c.args.document.0 c.args.self.now c.in_ok-queued.queued c.in_ok-queued.ensures.task c.settle_intersections.ensures.rest))
+    (λ (v : PageView) (it : IntersectionObservers) (kept : List Slot) (found : HeldFindings). LeavesUnboxed v.world.tree v.world.viewports.screen v.kept kept)
+    (λ tasks holds. holds) c.settle_intersections.ensures.unboxed
+
+pub returns-in-Err-clause-findings : goal.returns-in-Err-clause-findings
+returns-in-Err-clause-findings g c =
+    moved c.args.document.0 c.args.self.now c.in_ok-queued.queued c.in_ok-queued.ensures.task c.settle_intersections.ensures.rest c.has_entries-tells.result (c.end_notice-in-Err.ensures (now c.args.document.0 c.args.self.now c.in_ok-queued.queued c.in_ok-queued.ensures.task c.settle_intersections.ensures.rest) c.in_ok-queued.ensures.queued (world_queued c.args.document.0 c.args.self.now c.in_ok-queued.queued c.in_ok-queued.ensures.task c.settle_intersections.ensures.rest))
+    (λ (v : PageView) (it : IntersectionObservers) (kept : List Slot) (found : HeldFindings). Updates (shown_of v.world) v.world.scroll_margins c.args.document.0 v.world.intersection_observers v.found found)
+    (λ tasks holds. holds) c.settle_intersections.ensures.findings
+
+pub returns-in-Err-clause-ticks : goal.returns-in-Err-clause-ticks
+returns-in-Err-clause-ticks g c =
+    moved c.args.document.0 c.args.self.now c.in_ok-queued.queued c.in_ok-queued.ensures.task c.settle_intersections.ensures.rest c.has_entries-tells.result (c.end_notice-in-Err.ensures (now c.args.document.0 c.args.self.now c.in_ok-queued.queued c.in_ok-queued.ensures.task c.settle_intersections.ensures.rest) c.in_ok-queued.ensures.queued (world_queued c.args.document.0 c.args.self.now c.in_ok-queued.queued c.in_ok-queued.ensures.task c.settle_intersections.ensures.rest))
+    (λ (v : PageView) (it : IntersectionObservers) (kept : List Slot) (found : HeldFindings). (chained : HaveChains (shown_of v.world)) → c.settle_intersections.new.steps + due_count v.world kept ≤ c.args.steps.now + due_count v.world v.kept + most_steps (shown_of v.world) v.world.scroll_margins chained c.args.document.0 v.world.intersection_observers v.found found)
+    (λ tasks holds. holds) c.settle_intersections.ensures.ticks
+
+pub returns-in-Err-clause-rest : goal.returns-in-Err-clause-rest
+returns-in-Err-clause-rest g c =
+    (c.has_entries-tells.result, page_told c.args.document.0 c.args.self.now c.in_ok-queued.queued c.in_ok-queued.ensures.task c.settle_intersections.ensures.rest c.has_entries-tells.result (c.end_notice-in-Err.ensures (now c.args.document.0 c.args.self.now c.in_ok-queued.queued c.in_ok-queued.ensures.task c.settle_intersections.ensures.rest) c.in_ok-queued.ensures.queued (world_queued c.args.document.0 c.args.self.now c.in_ok-queued.queued c.in_ok-queued.ensures.task c.settle_intersections.ensures.rest)) ∙ sym (λ i. record c.args.self.now { world = once_told c.has_entries-tells.result c.args.document.0 (record (c.args.self.now.world) { intersection_observers = same_observers c.args.document.0 c.args.self.now c.in_ok-queued.queued c.in_ok-queued.ensures.task c.settle_intersections.ensures.rest c.has_entries-tells.result (c.end_notice-in-Err.ensures (now c.args.document.0 c.args.self.now c.in_ok-queued.queued c.in_ok-queued.ensures.task c.settle_intersections.ensures.rest) c.in_ok-queued.ensures.queued (world_queued c.args.document.0 c.args.self.now c.in_ok-queued.queued c.in_ok-queued.ensures.task c.settle_intersections.ensures.rest)) i }); kept = c.end_notice-in-Err.new.self.kept; found = c.end_notice-in-Err.new.self.found }))
+
+pub returns-in-Err-clause-noticed : goal.returns-in-Err-clause-noticed
+returns-in-Err-clause-noticed g c =
+    λ before. none_lost c.args.document.0 c.args.self.now c.in_ok-queued.queued c.in_ok-queued.ensures.task c.settle_intersections.ensures.rest c.has_entries-tells.result (c.end_notice-in-Err.ensures (now c.args.document.0 c.args.self.now c.in_ok-queued.queued c.in_ok-queued.ensures.task c.settle_intersections.ensures.rest) c.in_ok-queued.ensures.queued (world_queued c.args.document.0 c.args.self.now c.in_ok-queued.queued c.in_ok-queued.ensures.task c.settle_intersections.ensures.rest)) c.has_entries-tells.ensures
+
+pub returns-in-Err-clause-stopped : goal.returns-in-Err-clause-stopped
+returns-in-Err-clause-stopped g c =
+    moved c.args.document.0 c.args.self.now c.in_ok-queued.queued c.in_ok-queued.ensures.task c.settle_intersections.ensures.rest c.has_entries-tells.result (c.end_notice-in-Err.ensures (now c.args.document.0 c.args.self.now c.in_ok-queued.queued c.in_ok-queued.ensures.task c.settle_intersections.ensures.rest) c.in_ok-queued.ensures.queued (world_queued c.args.document.0 c.args.self.now c.in_ok-queued.queued c.in_ok-queued.ensures.task c.settle_intersections.ensures.rest))
+    (λ (v : PageView) (it : IntersectionObservers) (kept : List Slot) (found : HeldFindings). IsStopped (shown_of v.world) v.world.scroll_margins v.world.tree c.args.document.0 v.world.clock v.world.intersection_observers it)
+    (λ tasks holds. holds) c.in-Err.ensures.stopped
+
+pub returns-in-Err-clause-refused : goal.returns-in-Err-clause-refused
+returns-in-Err-clause-refused g c =
+    moved c.args.document.0 c.args.self.now c.in_ok-queued.queued c.in_ok-queued.ensures.task c.settle_intersections.ensures.rest c.has_entries-tells.result (c.end_notice-in-Err.ensures (now c.args.document.0 c.args.self.now c.in_ok-queued.queued c.in_ok-queued.ensures.task c.settle_intersections.ensures.rest) c.in_ok-queued.ensures.queued (world_queued c.args.document.0 c.args.self.now c.in_ok-queued.queued c.in_ok-queued.ensures.task c.settle_intersections.ensures.rest))
+    (λ (v : PageView) (it : IntersectionObservers) (kept : List Slot) (found : HeldFindings). (chained : HaveChains (shown_of v.world)) → IsRefused (shown_of v.world) v.world.scroll_margins chained c.args.document.0 v.world.clock v.world.intersection_observers it v.found.kept found.kept)
+    (λ tasks holds. holds) c.in-Err.ensures.refused
+
+pub returns-in-Err-clause-ready : goal.returns-in-Err-clause-ready
+returns-in-Err-clause-ready g c =
+    λ handlers.
+    ready_by handlers c.args.self.now.world (page_told c.args.document.0 c.args.self.now c.in_ok-queued.queued c.in_ok-queued.ensures.task c.settle_intersections.ensures.rest c.has_entries-tells.result (c.end_notice-in-Err.ensures (now c.args.document.0 c.args.self.now c.in_ok-queued.queued c.in_ok-queued.ensures.task c.settle_intersections.ensures.rest) c.in_ok-queued.ensures.queued (world_queued c.args.document.0 c.args.self.now c.in_ok-queued.queued c.in_ok-queued.ensures.task c.settle_intersections.ensures.rest)))
+    (stopped_told _ _ _ c.args.document.0 _ c.has_entries-tells.result c.args.self.now.world _ c.requires
+    (without_task c.args.document.0 c.args.self.now c.in_ok-queued.queued c.in_ok-queued.ensures.task (λ v. IsStopped (shown_of v.world) v.world.scroll_margins v.world.tree c.args.document.0 v.world.clock v.world.intersection_observers c.settle_intersections.new.self.world.intersection_observers) (λ tasks holds. holds) c.in-Err.ensures.stopped))

@@ -1,7 +1,7 @@
 use Rattle.std.proofs.Common.{◌∙◌, ◌^◌, ◌<◌, ap, sym, subst, length, arith, rules}
 use Rattle.trace_summary.specs.declared.summary.Summary.{Summary}
 use Rattle.trace_summary.proofs.Counting.{none_counted}
-use Rattle.trace_summary.proofs.Splits.{behind_shorter}
+use Rattle.text_lines.proofs.Splits.{behind_shorter}
 use Rattle.trace_summary.proofs.Traces.{Counted, counted_none, counted_more, counted_room, no_trace}
 use Rattle.trace_summary.proofs.summary.Summary.of.Goals as goal
 

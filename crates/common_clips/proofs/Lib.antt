@@ -1,0 +1,2 @@
+mod Folding
+mod Knowing

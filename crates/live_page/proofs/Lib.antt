@@ -1,0 +1,5 @@
+mod Texts
+mod Naming
+mod Running
+mod Ends
+mod Lacking

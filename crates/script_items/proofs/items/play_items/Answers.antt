@@ -1,0 +1,34 @@
+use Rattle.std.proofs.Common.{arith, refl}
+use Rattle.trace_runs.proofs.Following.{begin, rest_same, go_on, end_cut, done}
+use Rattle.trace_runs.proofs.Loops.{each_more, each_none}
+use Rattle.script_items.proofs.Playing.{items_are}
+use Rattle.script_items.proofs.Stopped.{stopped_run}
+use Rattle.script_items.proofs.items.play_items.Goals as goal
+
+pub loop-item-init : goal.loop-item-init
+loop-item-init g c =
+    record {
+      following = rest_same (items_are _ c.args.items.now _) begin;
+      ready = c.requires.ready;
+    }
+
+pub loop-item-preserved : goal.loop-item-preserved
+loop-item-preserved g c =
+    record {
+      following =
+          go_on _ refl
+          (rest_same (each_more _ c.args.items.now c.loop-item.item-index _ _ (omega arith) c.item-item.is) c.loop-item.invariant.following)
+          c.in_ok-run_item.ensures.says;
+      ready = c.in_ok-run_item.ensures.ready;
+    }
+
+pub returns-in_err-run_item-clause-says : goal.returns-in_err-run_item-clause-says
+returns-in_err-run_item-clause-says g c =
+    stopped_run c.from_residual.result c.in_err-run_item.field-0.0 c.from_residual.ensures
+    (end_cut c.in_err-run_item.field-0.0 _
+    (rest_same (each_more _ c.args.items.now c.loop-item.item-index _ _ (omega arith) c.item-item.is) c.loop-item.invariant.following)
+    c.in_err-run_item.ensures.says)
+
+pub returns-clause-says : goal.returns-clause-says
+returns-clause-says g c =
+    done refl (rest_same (each_none _ c.args.items.now c.loop-item.item-index _ (omega arith)) c.loop-item.invariant.following)
