@@ -7,6 +7,8 @@ with `$` there, so that they can't meet a name of JavaScript's own.
 """
 import ast
 import json
+import os
+import re
 
 RESERVED = frozenset('''abstract arguments await boolean byte case catch char const debugger default delete do double else enum eval
 export extends final finally float for function goto if implements import in instanceof int interface let long native new null
@@ -23,6 +25,16 @@ BUILTINS = frozenset('''len isinstance max min tuple range int list sorted enume
 frozenset getattr hasattr float bool bytes chr repr ord iter type print map filter callable'''.split())
 EXCEPTIONS = frozenset('''Exception ValueError KeyError IndexError TypeError AttributeError StopIteration OSError UnicodeDecodeError
 RuntimeError'''.split())
+
+
+def _helpers():
+    """The names at the top of python.js that aren't Python's own: a variable of such a name would hide what the result calls."""
+    with open(os.path.join(os.path.dirname(os.path.abspath(__file__)), 'python.js'), encoding='ascii') as file:
+        found = re.findall(r'^(?:const|let|function\*?|class) (\w+)', file.read(), re.M)
+    return frozenset(found) - BUILTINS - EXCEPTIONS
+
+
+HELPERS = _helpers()
 
 
 class Untranslatable(Exception):
@@ -75,7 +87,7 @@ def assigned(body):
 
 def written(name):
     """A variable's name in JavaScript."""
-    return name + '_' if name in RESERVED else name
+    return name + '_' if name in RESERVED or name in HELPERS else name
 
 
 def quoted(text):
@@ -406,6 +418,9 @@ class Module:
 
     def parameters(self, arguments, taken, scope):
         defaults = dict(zip([argument.arg for argument in arguments.args][::-1], arguments.defaults[::-1]))
+        for default in defaults.values():
+            if any(isinstance(part, ast.Name) and part.id in taken for part in ast.walk(default)):
+                self.refuse(default, 'a default that has the name of a parameter')
         parts = [written(name) + (' = ' + self.value(defaults[name], scope) if name in defaults else '') for name in taken]
         if arguments.vararg:
             parts.append('...' + written(arguments.vararg.arg))

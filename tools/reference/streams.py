@@ -49,12 +49,17 @@ def split(text):
     return pages
 
 
+def _writer(written, name):
+    def write(line, script_line=0, about=None):
+        written.append('%s %s' % (name, line))
+    return write
+
+
 def run(text, language):
     """The output lines, each preceded by its page's name, and whether a page wasn't a script or met a limit."""
     written, endings, waiting = [], set(), []
     for name, lines in split(text).items():
-        def write(line, script_line=0, about=None, name=name):
-            written.append('%s %s' % (name, line))
+        write = _writer(written, name)
         try:
             script = grammar.parse(b''.join([line for _, line in lines]), language)
         except (Fault, TextLimit) as refused:
