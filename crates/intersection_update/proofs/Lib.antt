@@ -15,3 +15,4 @@ pub mod Numbers
 pub mod Totals
 pub mod Current
 pub mod Watched
+pub mod Unwatched

@@ -13,12 +13,12 @@ ghost use Rattle.candidate_index.specs.Registrations.{place_of, observer_of, ser
 ghost use Rattle.candidate_index.specs.Held.{kept_of};
 ghost use Rattle.kept_findings.specs.Registered.{AreRegistered};
 ghost use Rattle.kept_findings.specs.Rooms.{HaveRoom};
-ghost use Rattle.intersection_update.specs.Watching.{AreWatchers};
+ghost use Rattle.intersection_update.specs.Watching.{AreWatchers, is_watched};
 ghost use Rattle.intersection_update.specs.Updating.{found_through, updated, has_news, AreKept, AreSettled, IsBegun, IsStopped};
 ghost use Rattle.intersection_update.specs.Keeping.{HaveChains, is_stale_in, StandsAt, IsLookedAt, IsSeen, IsOff, AreLookedAlong, HasCurrentClip, KeepsComputed, IsRefusedAt, IsRefused, HaveLooked};
 ghost use Rattle.intersection_update.specs.Steps.{steps_at, most_steps};
 
-use crate::rooted::is_looked_at;
+use crate::rooted::{is_looked_at, is_watched};
 use element_tree::DocumentId;
 use intersection_observer::{WatcherId, Watchers};
 use kept_findings::{KeptFindings, Looks};
@@ -35,6 +35,12 @@ fn tell_serials(watchers: &Watchers)
     if watchers.count() > 0 {
         watchers.registrations(WatcherId(0));
     }
+}
+
+fn is_watched_in(shown: &Shown<'_>, watchers: &Watchers, document: DocumentId) -> bool
+    ensures { result ≡ is_watched shown.now.tree document.0 watchers.now.part }
+{
+    is_watched(shown.page(), watchers, document)
 }
 
 // Settles the stale registrations of an observer, and returns whether an entry was queued.
@@ -113,8 +119,8 @@ fn settle_stale<L: Ledger>(
 /// an entry was queued at one of them, so that the document's notify task is due (Intersection Observer, 3.2.10: run the
 /// update intersection observations steps).
 ///
-/// Only stale registrations are recomputed: the spots on the chains of all of them are looked at, and the findings of the
-/// others are no news. It takes a step for each finding computed, and for each clip computed one for each spot strictly
+/// Answers at once if none of these observers has a target. Only stale registrations are recomputed: the spots on the chains of all
+/// of them are looked at, and the findings of the others are no news. It takes a step for each finding computed, and for each clip computed one for each spot strictly
 /// between the target and its root.
 ///
 /// # Errors
@@ -161,6 +167,9 @@ pub fn update<L: Ledger>(
         IsLookedAt shown.now.tree document.0 watchers.new.part serial → HasCurrentClip shown.now chained watchers.new.part findings.new.clips serial) }
     ensures refused { (chained : HaveChains shown.now) → OnErr result (IsRefused shown.now scroll_margins.now chained document.0 time watchers.old.part watchers.new.part findings.old.kept findings.new.kept) }
 {
+    if !is_watched_in(shown, watchers, document) {
+        return Ok(false);
+    }
     // Yields that chains lead to roots.
     shown.document_count();
     tell_serials(watchers);

@@ -1,5 +1,5 @@
-use Rattle.std.proofs.Common.{◌≡◌, ◌<◌, ◌+◌, ◌∙◌, length, Some, refl, ap, sym, subst, inl, inr, arith}
-use Rattle.page_model.specs.World.{Tree}
+use Rattle.std.proofs.Common.{◌≡◌, ◌<◌, ◌+◌, ◌∙◌, false, length, Some, refl, ap, sym, subst, inl, inr, arith, tests}
+use Rattle.page_model.specs.World.{Tree, IntersectionObservers}
 use Rattle.page_model.specs.Intersections.{is_rooted_in}
 use Rattle.clip_chain.specs.Worlds.{scene_of}
 use Rattle.intersection_observer.specs.Watchers.{HeldWatchers, watcher_at}
@@ -20,6 +20,8 @@ use Rattle.intersection_update.proofs.Observers.{Looks, looks_more, looks_skip, 
 use Rattle.intersection_update.proofs.Settled.{kept_then}
 use Rattle.intersection_update.proofs.Totals.{Totals, totals_skip, paid_here, apart_here, totals_more, totals_all}
 use Rattle.intersection_update.proofs.Updates.{rooted_settled, rooted_same, next_observer, next_told, skipped_told, all_observers, all_told, stopped_settled, stopped_at, on_err}
+use Rattle.intersection_update.specs.Watching.{is_watched}
+use Rattle.intersection_update.proofs.Unwatched.{unwatched_same, unwatched_told, unwatched_settled, none_looked_at}
 use Rattle.intersection_update.proofs.settling.update.Goals as goal
 use Rattle.intersection_update.proofs.settling.update.Goals.{then-is_looked_at+in_ok-queued, else-is_looked_at}
 
@@ -316,3 +318,52 @@ returns-in_err-queued-clause-pairs g c =
 
 pub returns-in_err-queued-clause-computed : goal.returns-in_err-queued-clause-computed
 returns-in_err-queued-clause-computed g c = λ serial some. c.settle_stale.ensures.computed serial (c.loop-number.invariant.computed serial some)
+
+pub returns-then-not-is_watched_in-clause-updated : goal.returns-then-not-is_watched_in-clause-updated
+returns-then-not-is_watched_in-clause-updated g c =
+    let none : is_watched c.args.shown.now.tree c.args.document.0 c.args.watchers.now.part ≡ false =
+    sym c.is_watched_in.ensures ∙ (let no : c.is_watched_in.result ≡ false = grind (arith, tests, c.if-not-is_watched_in.true) in no)
+    in
+    ap (λ (it : IntersectionObservers). record (c.args.watchers.now) { part = it }) (sym (unwatched_same c.args.shown.now c.args.scroll_margins.now c.args.shown.now.tree c.args.document.0 c.args.time c.args.watchers.now.part none))
+
+pub returns-then-not-is_watched_in-clause-queued : goal.returns-then-not-is_watched_in-clause-queued
+returns-then-not-is_watched_in-clause-queued g c =
+    let none : is_watched c.args.shown.now.tree c.args.document.0 c.args.watchers.now.part ≡ false =
+    sym c.is_watched_in.ensures ∙ (let no : c.is_watched_in.result ≡ false = grind (arith, tests, c.if-not-is_watched_in.true) in no)
+    in
+    unwatched_told c.args.shown.now c.args.scroll_margins.now c.args.shown.now.tree c.args.document.0 c.args.time c.args.watchers.now.part none
+
+pub returns-then-not-is_watched_in-clause-settled : goal.returns-then-not-is_watched_in-clause-settled
+returns-then-not-is_watched_in-clause-settled g c =
+    let none : is_watched c.args.shown.now.tree c.args.document.0 c.args.watchers.now.part ≡ false =
+    sym c.is_watched_in.ensures ∙ (let no : c.is_watched_in.result ≡ false = grind (arith, tests, c.if-not-is_watched_in.true) in no)
+    in
+    unwatched_settled c.args.shown.now c.args.scroll_margins.now c.args.document.0 c.args.watchers.now.part none
+
+pub returns-then-not-is_watched_in-clause-touched : goal.returns-then-not-is_watched_in-clause-touched
+returns-then-not-is_watched_in-clause-touched g c =
+    let none : is_watched c.args.shown.now.tree c.args.document.0 c.args.watchers.now.part ≡ false =
+    sym c.is_watched_in.ensures ∙ (let no : c.is_watched_in.result ≡ false = grind (arith, tests, c.if-not-is_watched_in.true) in no)
+    in
+    changes_none (scene_of c.args.shown.now) c.args.findings.now.seen c.args.findings.now.clips.touches
+
+pub returns-then-not-is_watched_in-clause-seen : goal.returns-then-not-is_watched_in-clause-seen
+returns-then-not-is_watched_in-clause-seen g c =
+    let none : is_watched c.args.shown.now.tree c.args.document.0 c.args.watchers.now.part ≡ false =
+    sym c.is_watched_in.ensures ∙ (let no : c.is_watched_in.result ≡ false = grind (arith, tests, c.if-not-is_watched_in.true) in no)
+    in
+    λ serial looked. absurd (none_looked_at c.args.shown.now.tree c.args.document.0 serial c.args.watchers.now.part none looked)
+
+pub returns-then-not-is_watched_in-clause-fresh : goal.returns-then-not-is_watched_in-clause-fresh
+returns-then-not-is_watched_in-clause-fresh g c =
+    let none : is_watched c.args.shown.now.tree c.args.document.0 c.args.watchers.now.part ≡ false =
+    sym c.is_watched_in.ensures ∙ (let no : c.is_watched_in.result ≡ false = grind (arith, tests, c.if-not-is_watched_in.true) in no)
+    in
+    λ chained serial looked. absurd (none_looked_at c.args.shown.now.tree c.args.document.0 serial c.args.watchers.now.part none looked)
+
+pub returns-then-not-is_watched_in-clause-current : goal.returns-then-not-is_watched_in-clause-current
+returns-then-not-is_watched_in-clause-current g c =
+    let none : is_watched c.args.shown.now.tree c.args.document.0 c.args.watchers.now.part ≡ false =
+    sym c.is_watched_in.ensures ∙ (let no : c.is_watched_in.result ≡ false = grind (arith, tests, c.if-not-is_watched_in.true) in no)
+    in
+    λ chained few serial looked. absurd (none_looked_at c.args.shown.now.tree c.args.document.0 serial c.args.watchers.now.part none looked)
