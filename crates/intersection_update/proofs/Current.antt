@@ -130,7 +130,7 @@ module _ (shown : Shown) (chained : HaveChains shown) (was : IntersectionObserve
   abbrev between_spots : ℕ → List Container
   between_spots serial = spots_between (scene_of shown) (standings_of shown) chained was serial
 
-  current_still : (now next : HeldFindings) (serial : ℕ) → ChangesByLooks (scene_of shown) now.seen next.seen now.clips.touches next.clips.touches → pair_of next.clips serial ≡ pair_of now.clips serial
+  pub current_still : (now next : HeldFindings) (serial : ℕ) → ChangesByLooks (scene_of shown) now.seen next.seen now.clips.touches next.clips.touches → pair_of next.clips serial ≡ pair_of now.clips serial
       → IsPairOf now.clips serial (spot_of_root (observer_of was serial).root) (element_spot (target_of was serial)) → IsSeen shown was now.seen serial
       → HasCurrentClip shown chained was now.clips serial → HasCurrentClip shown chained was next.clips serial
   current_still now next serial changes same pair seen is =

@@ -16,3 +16,4 @@ pub mod Totals
 pub mod Current
 pub mod Watched
 pub mod Unwatched
+pub mod Again

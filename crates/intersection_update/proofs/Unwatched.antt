@@ -53,7 +53,7 @@ module _ (shown : Shown) (margins : List Margins) (tree : Tree) (document time :
       (each_place no_intersection_observer (λ (x : IntersectionObserver). is_rooted_in tree document (x.root)) (λ n x. settled_observer time (found_through shown margins n) x) (it.made)
       ∙ all_stay 0 (it.made) none)
 
-none_queued : (it : IntersectionObservers) (numbers : List ℕ) → list_any (has_queued it it) numbers ≡ false
+pub none_queued : (it : IntersectionObservers) (numbers : List ℕ) → list_any (has_queued it it) numbers ≡ false
 none_queued it [] = refl
 none_queued it (n ∷ ns) = ap (λ b. b || list_any (has_queued it it) ns) (not_queued (length (intersection_observer_at it n).queue)) ∙ none_queued it ns
 

@@ -9,4 +9,4 @@ mod settling;
 
 pub use laws::an_update_settles_each_registration_once;
 pub use rooted::{have_entries, is_watched, watchers_of};
-pub use settling::update;
+pub use settling::{tell_serials, update};

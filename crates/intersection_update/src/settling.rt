@@ -14,7 +14,7 @@ ghost use Rattle.candidate_index.specs.Held.{kept_of};
 ghost use Rattle.kept_findings.specs.Registered.{AreRegistered};
 ghost use Rattle.kept_findings.specs.Rooms.{HaveRoom};
 ghost use Rattle.intersection_update.specs.Watching.{AreWatchers, is_watched};
-ghost use Rattle.intersection_update.specs.Updating.{found_through, updated, has_news, AreKept, AreSettled, IsBegun, IsStopped};
+ghost use Rattle.intersection_update.specs.Updating.{found_through, updated, has_news, AreKept, AreSettled, Carried, IsBegun, IsStopped};
 ghost use Rattle.intersection_update.specs.Keeping.{HaveChains, is_stale_in, StandsAt, IsLookedAt, IsSeen, IsOff, AreLookedAlong, HasCurrentClip, KeepsComputed, IsRefusedAt, IsRefused, HaveLooked};
 ghost use Rattle.intersection_update.specs.Steps.{steps_at, most_steps};
 
@@ -28,8 +28,8 @@ use std::sync::ledger::Ledger;
 use step_count::Steps;
 use thresholds::Margins;
 
-// Yields that serial numbers are unique.
-fn tell_serials(watchers: &Watchers)
+/// Tells a proof that serial numbers are unique; it does nothing.
+pub fn tell_serials(watchers: &Watchers)
     ensures { HasSerials watchers.now.part }
 {
     if watchers.count() > 0 {
@@ -147,6 +147,7 @@ pub fn update<L: Ledger>(
     ensures limits { watchers.new ≡ record watchers.old { part = watchers.new.part } }
     ensures count { length watchers.new.part.made ≡ length watchers.old.part.made }
     ensures given { watchers.new.part.given ≡ watchers.old.part.given }
+    ensures carried { OnOk result (Carried watchers.old.part watchers.new.part) }
     ensures registered { AreRegistered watchers.new.part scroll_margins.now findings.new }
     ensures room { HaveRoom (length shown.now.tree.elements) (length shown.now.tree.documents) findings.new }
     ensures touched { ChangesByLooks (scene_of shown.now) findings.old.seen findings.new.seen findings.old.clips.touches findings.new.clips.touches }
