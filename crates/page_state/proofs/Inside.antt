@@ -1,5 +1,5 @@
 -- What a page keeps true once a part of it was changed.
-use Rattle.std.proofs.Common.{◌≡◌, ℕ, zero, suc, ◌<◌, ◌≤◌, ◌+◌, List, [], ◌∷◌, ◌++◌, Option, Result, Ok, Err, IfOk, length, sym, subst, ap, refl, ◌∙◌, arith}
+use Rattle.std.proofs.Common.{◌≡◌, ℕ, Bool, zero, suc, ◌<◌, ◌≤◌, ◌+◌, List, [], ◌∷◌, ◌++◌, Option, Result, Ok, Err, IfOk, length, sym, subst, ap, refl, ◌∙◌, arith}
 use Rattle.std.specs.Global.{Vec}
 use Rattle.std.specs.Prelude.{slice_get}
 use Rattle.std.specs.List.{AllByRecursion}
@@ -29,6 +29,7 @@ use Rattle.kept_findings.proofs.Settled.{registered_made, registered_roomier}
 use Rattle.page_names.specs.Known.{KnownNames}
 use Rattle.page_names.specs.Things.{IsContainerBelow}
 use Rattle.page_state.specs.Labels.{IsIn}
+use Rattle.page_state.specs.Quiet.{NoneSettled}
 use Rattle.page_state.specs.Whole.{AreKnown, AreElementNames, AreAsked, IsPage}
 use Rattle.page_state.specs.Worlds.{world_of, counts_in}
 use Rattle.page_state.specs.declared.page.Page.TheInside.{Inside}
@@ -40,11 +41,34 @@ container_in inside (Ok (Element node)) below = below
 container_in inside (Ok (Document document)) below = below
 container_in inside (Err kind) below = tt
 
+-- no document is marked any more
+pub unsettled : (page : Inside) (settled : List Bool) → NoneSettled settled → IsPage page → IsPage (record page { settled = settled })
+unsettled page settled none is = record {
+  version = is.version;
+  known = is.known;
+  elements = is.elements;
+  limited = is.limited;
+  observations = is.observations;
+  registrations = is.registrations;
+  listeners = is.listeners;
+  frame_callbacks = is.frame_callbacks;
+  timers = is.timers;
+  watched = is.watched;
+  margins = is.margins;
+  registered = is.registered;
+  room = is.room;
+  quiet = none _ _ _ _;
+  asked = is.asked;
+  sized = is.sized;
+  noted = is.noted;
+  time = is.time;
+}
+
 -- the elements and documents are others, with the same names and as many as before
-pub edited : (page : Inside) (after : LaidElements) → IsPage page → after.elements.version ≡ page.laid.elements.version → after.elements.names ≡ page.laid.elements.names
+pub edited : (page : Inside) (after : LaidElements) (settled : List Bool) → NoneSettled settled → IsPage page → after.elements.version ≡ page.laid.elements.version → after.elements.names ≡ page.laid.elements.names
     → length after.elements.tree.elements ≡ length page.laid.elements.tree.elements → length after.elements.tree.documents ≡ length page.laid.elements.tree.documents
-    → IsPage (record page { laid = after })
-edited page after is version kept count framed = record {
+    → IsPage (record page { laid = after; settled = settled })
+edited page after settled none is version kept count framed = record {
   version = version ∙ is.version;
   known = subst (λ (n : ℕ). AreKnown page.names.list (record (counts_in page) { elements = n; documents = length after.elements.tree.documents })) (sym count)
       (subst (λ (n : ℕ). AreKnown page.names.list (record (counts_in page) { documents = n })) (sym framed) is.known);
@@ -63,6 +87,7 @@ edited page after is version kept count framed = record {
   registered = is.registered;
   room = subst (λ (n : ℕ). HaveRoom n (length after.elements.tree.documents) page.findings) (sym count)
       (subst (λ (n : ℕ). HaveRoom (length page.laid.elements.tree.elements) n page.findings) (sym framed) is.room);
+  quiet = none _ _ _ _;
   asked = subst (λ (n : ℕ). AreAsked page.version page.queries.items n) (sym framed) is.asked;
   sized = is.sized;
   noted = is.noted;
@@ -70,12 +95,12 @@ edited page after is version kept count framed = record {
 }
 
 -- there is room for an element and for what is seen of more spots
-pub prepared : (page : Inside) (after : LaidElements) (names : KnownNames) (findings : HeldFindings) → IsPage page → after.elements ≡ record (page.laid.elements) { ready = after.elements.ready } → names.list ≡ page.names.list
-    → IsRoomier page.findings findings → IsPage (record page { laid = after; names = names; findings = findings })
-prepared page after names findings is same listed roomier =
+pub prepared : (page : Inside) (after : LaidElements) (settled : List Bool) (names : KnownNames) (findings : HeldFindings) → NoneSettled settled → IsPage page → after.elements ≡ record (page.laid.elements) { ready = after.elements.ready } → names.list ≡ page.names.list
+    → IsRoomier page.findings findings → IsPage (record page { laid = after; names = names; findings = findings; settled = settled })
+prepared page after settled names findings none is same listed roomier =
     let elements : length after.elements.tree.elements ≡ length page.laid.elements.tree.elements = ap (λ (it : PageElements). length it.tree.elements) same in
     let documents : length after.elements.tree.documents ≡ length page.laid.elements.tree.documents = ap (λ (it : PageElements). length it.tree.documents) same in
-    let is' : IsPage (record page { laid = after }) = edited page after is (ap (λ (it : PageElements). it.version) same) (ap (λ (it : PageElements). it.names) same) elements documents in
+    let is' : IsPage (record page { laid = after; settled = settled }) = edited page after settled none is (ap (λ (it : PageElements). it.version) same) (ap (λ (it : PageElements). it.names) same) elements documents in
     record {
       version = is'.version;
       known = subst (λ (list : List Name). AreKnown list (counts_in (record page { laid = after }))) (sym listed) is'.known;
@@ -90,6 +115,7 @@ prepared page after names findings is same listed roomier =
       margins = is.margins;
       registered = registered_roomier page.watchers.part page.scroll_margins.items page.findings findings roomier is.registered;
       room = room_roomier (length after.elements.tree.elements) (length after.elements.tree.documents) page.findings findings roomier is'.room;
+      quiet = none _ _ _ _;
       asked = is'.asked;
       sized = is.sized;
       noted = is.noted;
@@ -104,7 +130,7 @@ asked_grown version queries documents more grown asked = record { documents = al
     all (first ∷ others) are = (omega (arith, are.0, grown), all others are.1)
 
 -- an element is made, last, with its name, and a document with its own where it is a frame
-module _ (page : Inside) (is : IsPage page) (after : LaidElements) (names : KnownNames) (findings : HeldFindings) (roomier : IsRoomier page.findings findings) (text : List ℕ)
+module _ (page : Inside) (is : IsPage page) (after : LaidElements) (settled : List Bool) (none : NoneSettled settled) (names : KnownNames) (findings : HeldFindings) (roomier : IsRoomier page.findings findings) (text : List ℕ)
     (version : after.elements.version ≡ page.laid.elements.version) (last : after.elements.names ≡ page.laid.elements.names ++ text ∷ []) (count : length after.elements.tree.elements ≡ length page.laid.elements.tree.elements + 1) where
   abbrev elements : ℕ
   elements = length page.laid.elements.tree.elements
@@ -128,7 +154,7 @@ module _ (page : Inside) (is : IsPage page) (after : LaidElements) (names : Know
 
   grown : (list : List Name) (framed : ℕ) → documents ≤ framed → names.list ≡ list → length after.elements.tree.documents ≡ framed
       → AreKnown list (record (counts_in page) { elements = elements + 1; documents = framed }) → AreElementNames list after.elements → HaveRoom (elements + 1) framed findings
-      → IsPage (record page { names = names; laid = after; findings = findings })
+      → IsPage (record page { names = names; laid = after; findings = findings; settled = settled })
   grown list framed more listed are known named room = record {
     version = version ∙ is.version;
     known = subst (λ (it : List Name). AreKnown it (record (counts_in page) { elements = length after.elements.tree.elements; documents = length after.elements.tree.documents })) (sym listed)
@@ -145,6 +171,7 @@ module _ (page : Inside) (is : IsPage page) (after : LaidElements) (names : Know
     margins = is.margins;
     registered = registered_roomier page.watchers.part page.scroll_margins.items page.findings findings roomier is.registered;
     room = subst (λ (n : ℕ). HaveRoom n (length after.elements.tree.documents) findings) (sym count) (subst (λ (n : ℕ). HaveRoom (elements + 1) n findings) (sym are) room);
+    quiet = none _ _ _ _;
     asked = subst (λ (n : ℕ). AreAsked page.version page.queries.items n) (sym are) (asked_grown page.version page.queries.items documents framed more is.asked);
     sized = is.sized;
     noted = is.noted;
@@ -152,7 +179,7 @@ module _ (page : Inside) (is : IsPage page) (after : LaidElements) (names : Know
   }
 
   pub enlarged : (n : ℕ) → n ≡ elements → names.list ≡ page.names.list ++ record { text = text; thing = ElementThing n } ∷ []
-      → length after.elements.tree.documents ≡ documents → MayBeSeen findings.seen findings.clips (element_spot n) → IsPage (record page { names = names; laid = after; findings = findings })
+      → length after.elements.tree.documents ≡ documents → MayBeSeen findings.seen findings.clips (element_spot n) → IsPage (record page { names = names; laid = after; findings = findings; settled = settled })
   enlarged n number given same seen =
       grown one documents (omega arith) (given ∙ ap (λ (m : ℕ). page.names.list ++ record { text = text; thing = ElementThing m } ∷ []) number) same known_one names_one
       (room_one n number seen)
@@ -160,7 +187,7 @@ module _ (page : Inside) (is : IsPage page) (after : LaidElements) (names : Know
   pub framed_page : (n document : ℕ) (inside : List ℕ) → n ≡ elements → document ≡ documents
       → names.list ≡ (page.names.list ++ record { text = text; thing = ElementThing n } ∷ []) ++ record { text = inside; thing = DocumentThing document } ∷ []
       → length after.elements.tree.documents ≡ documents + 1 → MayBeSeen findings.seen findings.clips (element_spot n) → MayBeSeen findings.seen findings.clips (view_spot document)
-      → IsPage (record page { names = names; laid = after; findings = findings })
+      → IsPage (record page { names = names; laid = after; findings = findings; settled = settled })
   framed_page n document inside number framed given more seen shown =
       let counts : Counts = record (counts_in page) { elements = elements + 1 } in
       grown (one ++ record { text = inside; thing = DocumentThing documents } ∷ []) (documents + 1) (omega arith)
@@ -207,6 +234,7 @@ watched_page page names after text document n handler is given number made =
       margins = is.margins;
       registered = is.registered;
       room = is.room;
+      quiet = is.quiet;
       asked = is.asked;
       sized = is.sized;
       noted = is.noted;
@@ -219,17 +247,17 @@ margins_before (first ∷ others) last zero below = refl
 margins_before (first ∷ others) last (suc n) below = margins_before others last n (omega (arith, below))
 
 -- an intersection observer is made, last, with its name and its scroll margins
-pub seeing_page : (page : Inside) (names : KnownNames) (after : HeldWatchers) (scroll : Vec Margins) (text : List ℕ) (document n : ℕ) (handler : Option ℕ) (root : Root) (margins moves : Margins) (thresholds : List ℕ) → IsPage page
+pub seeing_page : (page : Inside) (names : KnownNames) (after : HeldWatchers) (scroll : Vec Margins) (settled : List Bool) (text : List ℕ) (document n : ℕ) (handler : Option ℕ) (root : Root) (margins moves : Margins) (thresholds : List ℕ) → NoneSettled settled → IsPage page
     → names.list ≡ page.names.list ++ record { text = text; thing = IntersectionObserverThing n } ∷ [] → n ≡ length page.watchers.part.made
     → after ≡ record (page.watchers) { part = with_intersection_observer document handler root margins thresholds (page.watchers.part) }
-    → scroll.items ≡ page.scroll_margins.items ++ moves ∷ [] → IsPage (record page { names = names; watchers = after; scroll_margins = scroll })
-seeing_page page names after scroll text document n handler root margins moves thresholds is given number made put =
+    → scroll.items ≡ page.scroll_margins.items ++ moves ∷ [] → IsPage (record page { names = names; watchers = after; scroll_margins = scroll; settled = settled })
+seeing_page page names after scroll settled text document n handler root margins moves thresholds none is given number made put =
     let watchers : ℕ = length page.watchers.part.made in
     let list : List Name = page.names.list ++ record { text = text; thing = IntersectionObserverThing watchers } ∷ [] in
     let listed : names.list ≡ list = given ∙ ap (λ (m : ℕ). page.names.list ++ record { text = text; thing = IntersectionObserverThing m } ∷ []) number in
     let new : HeldWatchers = record (page.watchers) { part = with_intersection_observer document handler root margins thresholds (page.watchers.part) } in
     let count : length new.part.made ≡ watchers + 1 = length_push page.watchers.part.made _ in
-    subst (λ (it : HeldWatchers). IsPage (record page { names = names; watchers = it; scroll_margins = scroll })) (sym made)
+    subst (λ (it : HeldWatchers). IsPage (record page { names = names; watchers = it; scroll_margins = scroll; settled = settled })) (sym made)
     (record {
       version = is.version;
       known = subst (λ (it : List Name). AreKnown it (record (counts_in page) { intersection_observers = length new.part.made })) (sym listed)
@@ -256,6 +284,7 @@ seeing_page page names after scroll text document n handler root margins moves t
       registered = registered_made page.watchers.part page.scroll_margins.items scroll.items _ page.findings refl
           (λ watcher there. ap (λ (it : List Margins). scroll_margins_at it watcher) put ∙ margins_before page.scroll_margins.items moves watcher (subst (λ (m : ℕ). watcher < m) (sym is.margins) there)) is.registered;
       room = is.room;
+      quiet = none _ _ _ _;
       asked = is.asked;
       sized = is.sized;
       noted = is.noted;

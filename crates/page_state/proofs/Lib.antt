@@ -16,4 +16,5 @@ mod Opening
 mod Puts
 mod Watched
 mod Updated
+mod Quiet
 pub mod Ready

@@ -107,6 +107,11 @@ module _ (document : ℕ) (before : PageView) (queued : Bool) {begun : PageView}
         ∙ ap (λ (v : PageView). record v { world = once_told tells document now; kept = settled.kept; found = settled.found }) is
         ∙ sym (λ i. record before { world = once_told tells document now; kept = (told i).kept; found = (told i).found })
 
+-- nor does it any document
+pub tree_queued : (queued : Bool) (document : ℕ) (world : World) → (with_task_if queued document world).tree ≡ world.tree
+tree_queued true document world = refl
+tree_queued false document world = refl
+
 -- telling changes no observer
 pub observers_told : (tells : Bool) (document : ℕ) (world : World) → (once_told tells document world).intersection_observers ≡ world.intersection_observers
 observers_told true document world = by_flag (is_notifying document (world.notifying))

@@ -11,3 +11,4 @@ pub mod Labels
 pub mod Rounds
 pub mod Watchers
 pub mod Notices
+pub mod Quiet

@@ -8,11 +8,12 @@ use Rattle.text_io.specs.Limits.{limit_number}
 use Rattle.page_model.specs.World.{Thing, Name, Listener, FrameCallback, Timer}
 use Rattle.page_model.specs.Names.{is_same_thing, element_text}
 use Rattle.page_model.specs.Ranges.{Counts, IsThingIn}
+use Rattle.page_model.specs.Shown.{shown_with}
 use Rattle.event_tables.specs.Tables.{Bounded}
 use Rattle.event_tables.specs.Tasks.{WaitingTasks}
 use Rattle.resize_observer.specs.Observers.{HeldObservers}
 use Rattle.intersection_observer.specs.Watchers.{HeldWatchers}
-use Rattle.page_boxes.specs.Pages.{IsScreen}
+use Rattle.page_boxes.specs.Pages.{IsScreen, seen_screen}
 use Rattle.page_tree.specs.Items.{IsNatural}
 use Rattle.px_units.specs.declared.Size.{Size}
 use Rattle.page_tree.specs.Views.{PageElements}
@@ -20,6 +21,7 @@ use Rattle.page_names.specs.Things.{AreIn}
 use Rattle.intersection_update.specs.Watching.{AreWatchers}
 use Rattle.kept_findings.specs.Registered.{AreRegistered}
 use Rattle.kept_findings.specs.Rooms.{HaveRoom}
+use Rattle.page_state.specs.Quiet.{AreQuiet}
 use Rattle.page_state.specs.Worlds.{counts_in}
 use Rattle.page_state.specs.declared.page.Page.TheInside.{Inside}
 use Rattle.page_state.specs.declared.queries.QueryList.{QueryList}
@@ -71,6 +73,7 @@ pub record IsPage (page : Inside) : Type 0 where
   pub margins : length page.scroll_margins.items ≡ length page.watchers.part.made
   pub registered : AreRegistered page.watchers.part page.scroll_margins.items page.findings
   pub room : HaveRoom (length page.laid.elements.tree.elements) (length page.laid.elements.tree.documents) page.findings
+  pub quiet : AreQuiet page.settled (shown_with page.laid.elements.tree (seen_screen page.screen) page.scrolls) page.scroll_margins.items page.watchers.part page.findings
   pub asked : AreAsked page.version page.queries.items (length page.laid.elements.tree.documents)
   pub sized : IsScreen page.screen
   pub noted : AllByRecursion (λ (it : Option Size). ForSome it IsNatural) page.noted

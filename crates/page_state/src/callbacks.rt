@@ -106,6 +106,11 @@ impl Page {
         ensures taken { self.new ≡ record self.old { world = record (self.old.world) { scrolls = without_pending document.0 (self.old.world.scrolls) } } }
         ensures ready { (handlers : ℕ) → IsReadyFor handlers self.old.world → IsReadyFor handlers self.new.world }
     {
-        self.scrolls.take_pending(document)
+        let scrolled = self.scrolls.take_pending(document);
+        if scrolled.as_slice().is_empty() {
+            return scrolled;
+        }
+        self.settled.clear();
+        scrolled
     }
 }

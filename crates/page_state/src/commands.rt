@@ -47,6 +47,7 @@ impl Page {
         ensures boxes { self.new.kept ≡ self.old.kept }
         ensures findings { self.new.found ≡ self.old.found }
     {
+        self.settled.clear();
         self.screen.size = size;
         Ok(Effect::Nothing)
     }
@@ -61,6 +62,7 @@ impl Page {
     {
         // Yields that layout doesn't depend on the ratio.
         boxes_do_not_read_the_ratio();
+        self.settled.clear();
         self.screen.ratio = ratio;
         Ok(Effect::Nothing)
     }
@@ -111,6 +113,7 @@ impl Page {
         self.making_leaves_boxes();
         self.names.check_free(name)?;
         let document = self.document(document)?;
+        self.settled.clear();
         let node = self.laid.reserve()?;
         self.findings.add(Container::Element(node))?;
         self.names.insert(name, Thing::Element(node))?;
@@ -141,6 +144,7 @@ impl Page {
         if page.is_full_of_documents() {
             return Err(PageFault::Limit(LimitKind::Documents));
         }
+        self.settled.clear();
         let node = self.laid.reserve()?;
         let framed = DocumentId(self.laid.page().document_count());
         self.findings.add(Container::Element(node))?;
@@ -201,6 +205,7 @@ impl Page {
         ensures boxes { Marks (is_moved self.old.world.tree self.new.world.tree (Some node.0) (element_of (seen_container container))) result self.old.kept self.new.kept }
         ensures findings { self.new.found ≡ self.old.found }
     {
+        self.settled.clear();
         if let Err(fault) = self.laid.place(container, node, sibling) {
             return Err(refused(fault));
         }
@@ -228,6 +233,7 @@ impl Page {
         ensures removed { self.new ≡ record self.old { world = record (self.old.world) { tree = removed (self.old.world.tree) node.0 }; kept = self.new.kept } }
         ensures marks { MarksOnly (is_over self.new.world.tree (parent self.old.world.tree (Some node.0))) self.old.kept self.new.kept }
     {
+        self.settled.clear();
         self.laid.remove(node);
     }
 
@@ -244,6 +250,7 @@ impl Page {
         ensures findings { self.new.found ≡ self.old.found }
     {
         let node = self.element(node, subject)?;
+        self.settled.clear();
         self.laid.set(node, declaration);
         Ok(Effect::Nothing)
     }
@@ -261,6 +268,7 @@ impl Page {
         ensures findings { self.new.found ≡ self.old.found }
     {
         let node = self.element(node, subject)?;
+        self.settled.clear();
         self.laid.grow(node, axis, by)?;
         Ok(Effect::Nothing)
     }
@@ -278,6 +286,7 @@ impl Page {
         ensures findings { self.new.found ≡ self.old.found }
     {
         let node = self.element(node, subject)?;
+        self.settled.clear();
         self.laid.load(node, size)?;
         Ok(Effect::Nothing)
     }

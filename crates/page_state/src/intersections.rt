@@ -50,6 +50,7 @@ impl Page {
         let thresholds = self.thresholds_given(making.thresholds.as_slice())?;
         self.names.reserve(1)?;
         self.scroll_margins.reserve(1)?;
+        self.settled.clear();
         let Ok(watcher) = self
             .watchers
             .make(document, handler, root, margins, thresholds)
@@ -99,6 +100,7 @@ impl Page {
             Err(fault) => return Err(refused(fault)),
         };
         let root = self.watchers.root_of(watcher);
+        self.settled.clear();
         self.findings.register(registration, root, node)?;
         if let Err(fault) = self.watchers.observe(watcher, node) {
             self.findings.forget(registration);
@@ -153,6 +155,7 @@ impl Page {
         let Some(taken) = self.watchers.unobserve(watcher, target) else {
             return;
         };
+        self.settled.clear();
         self.findings.forget(taken);
     }
 
@@ -162,6 +165,7 @@ impl Page {
         ensures findings { self.new.found ≡ self.old.found }
     {
         let watcher = self.watcher(observer)?;
+        self.settled.clear();
         Ok(Effect::Taken(watcher, self.watchers.take_records(watcher)))
     }
 }

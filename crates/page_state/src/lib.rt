@@ -19,6 +19,7 @@ mod readings;
 mod resize;
 mod rounds;
 mod scrolls;
+mod settled;
 mod tables;
 mod ticks;
 

@@ -31,6 +31,7 @@ ghost use Rattle.page_names.specs.Things.{present_of, IsSubject};
 use crate::answers::{Effect, PageFault};
 use crate::by_document::ByDocument;
 use crate::queries::QueryList;
+use crate::settled::Settled;
 use crate::{dropping, first};
 use element_tree::{Container, DocumentId, NodeId};
 use event_tables::{FrameCallbacks, Listeners, Tasks, Timers};
@@ -81,6 +82,8 @@ pub struct Page {
     pub(crate) scroll_margins: Vec<Margins>,
     // The cached findings of their registrations.
     pub(crate) findings: KeptFindings,
+    // The documents that are as their last update of intersections left them.
+    pub(crate) settled: Settled,
     // Whether a notify task of a document is queued.
     pub(crate) notifying: ByDocument<bool>,
     pub(crate) scrolls: Scrolls,
@@ -109,6 +112,7 @@ impl Drop for Page {
             watchers,
             scroll_margins,
             findings,
+            settled: _,
             notifying: _,
             scrolls,
             queries: _,
@@ -167,6 +171,7 @@ impl Page {
             watchers: first::watchers(alloc, version),
             scroll_margins: Vec::new(alloc),
             findings,
+            settled: Settled::new(),
             notifying,
             scrolls: Scrolls::new(alloc),
             queries: Vec::new(alloc),

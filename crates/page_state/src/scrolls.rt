@@ -142,6 +142,7 @@ impl Page {
         ensures findings { self.new.found ≡ self.old.found }
     {
         let document = document_of_container(self.laid.page(), target);
+        self.settled.clear();
         self.scrolls.scroll_to(document, target, to, range)?;
         Ok(Effect::Nothing)
     }

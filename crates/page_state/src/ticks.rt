@@ -25,7 +25,7 @@ use crate::page::{Page, shown_at_once, viewport_now};
 use element_tree::DocumentId;
 use event_tables::Task;
 use intersection_observer::{EntryList, WatcherId};
-use intersection_update::{have_entries, update, watchers_of};
+use intersection_update::{have_entries, tell_serials, update, watchers_of};
 use std::alloc::AllocError;
 use std::sync::ledger::Ledger;
 use step_count::Steps;
@@ -103,6 +103,11 @@ impl Page {
         ensures ticks { (chained : HaveChains (shown_of self.old.world)) → TakesAtMost document.0 self.old self.new chained steps.old steps.new }
         ensures ready { (handlers : ℕ) → IsReadyFor handlers self.old.world → IsReadyFor handlers self.new.world }
     {
+        if self.settled.has(document) {
+            // Yields that serial numbers are unique.
+            tell_serials(&self.watchers);
+            return Ok(());
+        }
         let queued = self.begin_notice(document)?;
         match self.settle_intersections(document, steps) {
             Ok(tells) => {
@@ -164,6 +169,7 @@ impl Page {
         document: DocumentId,
         steps: &mut Steps<L>,
     ) -> Result<bool, AllocError>
+        requires { document.0 < length self.old.world.tree.documents }
         ensures updated { OnOk result (self.new.world.intersection_observers ≡ settled_now document.0 self.old.world) }
         ensures queued { IfOk result (λ queued. queued ≡ has_news self.old.world.tree document.0 self.old.world.intersection_observers (settled_now document.0 self.old.world)) }
         ensures rest { self.new ≡ record self.old { world = record (self.old.world) { intersection_observers = self.new.world.intersection_observers }; kept = self.new.kept; found = self.new.found } }
@@ -187,7 +193,7 @@ impl Page {
             &self.watchers,
             document,
         );
-        update(
+        let told = update(
             &shown,
             &mut self.watchers,
             self.scroll_margins.as_slice(),
@@ -195,7 +201,11 @@ impl Page {
             document,
             self.clock,
             steps,
-        )
+        );
+        // There are at most 64 documents.
+        let _count = self.laid.page().document_count();
+        self.settled.note(document, told.is_ok());
+        told
     }
 
     /// Returns the observers that a notify task of a document notifies, in creation order: those whose root is now the
@@ -225,6 +235,7 @@ impl Page {
         ensures written { AreWritten (length self.old.world.tree.elements) result }
         ensures ready { (handlers : ℕ) → IsReadyFor handlers self.old.world → IsReadyFor handlers self.new.world }
     {
+        self.settled.clear();
         self.watchers.take_records(watcher)
     }
 }

@@ -12,16 +12,16 @@ use Rattle.page_state.proofs.Made.{frame_there, due_made, due_still}
 use Rattle.page_state.proofs.page.Page.make_frame.Goals as goal
 
 pub invariant_of-self-in_err-add : goal.invariant_of-self-in_err-add
-invariant_of-self-in_err-add c = prepared c.self.inside c.reserve.new.self c.self.inside.names c.add.new.self c.self.invariant c.reserve.ensures.same refl c.add.ensures.roomier
+invariant_of-self-in_err-add c = prepared c.self.inside c.reserve.new.self c.clear.new.self c.self.inside.names c.add.new.self c.clear.ensures c.self.invariant c.reserve.ensures.same refl c.add.ensures.roomier
 
 pub invariant_of-self-in_err-add-2 : goal.invariant_of-self-in_err-add-2
 invariant_of-self-in_err-add-2 c =
-    prepared c.self.inside c.reserve.new.self c.self.inside.names c.add-2.new.self c.self.invariant c.reserve.ensures.same refl
+    prepared c.self.inside c.reserve.new.self c.clear.new.self c.self.inside.names c.add-2.new.self c.clear.ensures c.self.invariant c.reserve.ensures.same refl
     (roomier_then c.add.ensures.roomier c.add-2.ensures.roomier)
 
 pub invariant_of-self-in_err-reserve : goal.invariant_of-self-in_err-reserve
 invariant_of-self-in_err-reserve c =
-    prepared c.self.inside c.reserve.new.self c.reserve-2.new.self c.add-2.new.self c.self.invariant c.reserve.ensures.same c.reserve-2.ensures.same
+    prepared c.self.inside c.reserve.new.self c.clear.new.self c.reserve-2.new.self c.add-2.new.self c.clear.ensures c.self.invariant c.reserve.ensures.same c.reserve-2.ensures.same
     (roomier_then c.add.ensures.roomier c.add-2.ensures.roomier)
 
 pub insert-requires-2 : goal.insert-requires-2
@@ -34,7 +34,7 @@ pub invariant_of-self-2 : goal.invariant_of-self-2
 invariant_of-self-2 c =
     let p = c.self.inside in
     let before = c.in_ok-node.ensures.same in
-    framed_page p c.self.invariant c.make_frame.new.self c.insert-2.new.self c.add-2.new.self (roomier_then c.add.ensures.roomier c.add-2.ensures.roomier) c.args.name
+    framed_page p c.self.invariant c.make_frame.new.self c.clear.new.self c.clear.ensures c.insert-2.new.self c.add-2.new.self (roomier_then c.add.ensures.roomier c.add-2.ensures.roomier) c.args.name
     (ap (λ (it : PageElements). it.version) c.in_ok-_made.ensures.made ∙ ap (λ (it : PageElements). it.version) before)
     (ap (λ (it : PageElements). it.names) c.in_ok-_made.ensures.made ∙ ap (λ (it : PageElements). it.names ++ c.args.name ∷ []) before)
     (c.in_ok-_made.ensures.count ∙ ap (λ (it : PageElements). length it.tree.elements + 1) before)

@@ -17,8 +17,8 @@ use Rattle.page_state.proofs.page.Page.make_watcher.Goals as goal
 
 pub invariant_of-self-2 : goal.invariant_of-self-2
 invariant_of-self-2 c =
-    seeing_page c.self.inside c.insert.new.self c.make.new.self c.push_reserved.new.self c.args.making.now.name c.in_ok-document.document.0 c.in-Ok.watcher.0 c.in_ok-handler.handler (seen_root c.in_ok-root.root)
-    c.in_ok-margins.margins c.in_ok-scroll_margins.scroll_margins c.in_ok-thresholds.thresholds c.self.invariant
+    seeing_page c.self.inside c.insert.new.self c.make.new.self c.push_reserved.new.self c.clear.new.self c.args.making.now.name c.in_ok-document.document.0 c.in-Ok.watcher.0 c.in_ok-handler.handler (seen_root c.in_ok-root.root)
+    c.in_ok-margins.margins c.in_ok-scroll_margins.scroll_margins c.in_ok-thresholds.thresholds c.clear.ensures c.self.invariant
     (c.in_ok-insert.ensures.given ∙ ap (λ (list : List Name). list ++ record { text = c.args.making.now.name; thing = IntersectionObserverThing c.in-Ok.watcher.0 } ∷ []) c.in_ok-reserve.ensures.same)
     c.in-Ok.ensures.watcher c.in-Ok.ensures.made
     (c.push_reserved.ensures.items ∙ ap (λ (list : List Margins). list ++ c.in_ok-scroll_margins.scroll_margins ∷ []) c.reserve-2.ensures.items)

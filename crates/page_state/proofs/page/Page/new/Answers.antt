@@ -22,6 +22,7 @@ invariant_of-result c =
       margins = search rules;
       registered = c.in_ok-names.ensures.registered _ _ (λ serial. search rules);
       room = room_first _ _ _ (search rules) (search rules) c.in_ok-names.ensures.room;
+      quiet = search rules;
       asked = search rules;
       sized = search rules;
       noted = search rules;

@@ -14,10 +14,10 @@ use Rattle.page_state.specs.declared.answers.Effect.TheVariants.{Nothing}
 use Rattle.page_state.proofs.page.Page.put.Goals as goal
 
 pub invariant_of-self : goal.invariant_of-self
-invariant_of-self c = edited c.self.inside c.place.new.self c.self.invariant (ap (λ (it : LaidElements). it.elements.version) c.in-Err.ensures.same) (ap (λ (it : LaidElements). it.elements.names) c.in-Err.ensures.same) c.place.ensures.count c.place.ensures.documents
+invariant_of-self c = edited c.self.inside c.place.new.self c.clear.new.self c.clear.ensures c.self.invariant (ap (λ (it : LaidElements). it.elements.version) c.in-Err.ensures.same) (ap (λ (it : LaidElements). it.elements.names) c.in-Err.ensures.same) c.place.ensures.count c.place.ensures.documents
 
 pub invariant_of-self-2 : goal.invariant_of-self-2
-invariant_of-self-2 c = edited c.self.inside c.place.new.self c.self.invariant (ap (λ (it : PageElements). it.version) c.in_default.ensures.rest) (ap (λ (it : PageElements). it.names) c.in_default.ensures.rest) c.place.ensures.count c.place.ensures.documents
+invariant_of-self-2 c = edited c.self.inside c.place.new.self c.clear.new.self c.clear.ensures c.self.invariant (ap (λ (it : PageElements). it.version) c.in_default.ensures.rest) (ap (λ (it : PageElements). it.names) c.in_default.ensures.rest) c.place.ensures.count c.place.ensures.documents
 
 pub returns-in-Err-clause-done : goal.returns-in-Err-clause-done
 returns-in-Err-clause-done c =

@@ -11,6 +11,7 @@ use Rattle.kept_findings.proofs.Rooms.{room_registered}
 use Rattle.page_state.specs.Findings.{KeepsFindings}
 use Rattle.page_state.specs.Views.{PageView}
 use Rattle.page_state.specs.Whole.{IsPage}
+use Rattle.page_state.proofs.Inside.{unsettled}
 use Rattle.page_state.proofs.Findings.{registers_some, pair_put, registered_keeps, registered_back, registered_one, same_findings}
 use Rattle.page_state.proofs.Watched.{observed_so}
 use Rattle.page_state.proofs.page.Page.register.Goals as goal
@@ -24,8 +25,8 @@ invariant_of-self-in-Err-observe c =
     let back : c.forget.new.self ≡ c.self.inside.findings =
     registered_back c.self.inside.watchers c.self.inside.scroll_margins.items c.in_ok-watcher.watcher.0 c.in_ok-node.node.0 c.in-Ok-Some.registration.0 (seen_root c.root_of-root.result) c.self.inside.findings c.register.new.self
     c.next_registration.ensures.serials c.self.invariant.registered (registers_some c.in-Ok-Some.field-0-is c.in-Ok-Some.ensures.answer).2 c.in_ok-register.ensures.registered c.forget.new.self c.forget.ensures in
-    subst (λ (it : HeldWatchers). IsPage (record (c.self.inside) { watchers = it; findings = c.forget.new.self })) (sym c.in-Err-observe.ensures.same)
-    (subst (λ (it : HeldFindings). IsPage (record (c.self.inside) { findings = it })) (sym back) c.self.invariant)
+    subst (λ (it : HeldWatchers). IsPage (record (c.self.inside) { watchers = it; findings = c.forget.new.self; settled = c.clear.new.self })) (sym c.in-Err-observe.ensures.same)
+    (subst (λ (it : HeldFindings). IsPage (record (c.self.inside) { findings = it; settled = c.clear.new.self })) (sym back) (unsettled c.self.inside c.clear.new.self c.clear.ensures c.self.invariant))
 
 pub returns-in-Err-observe-clause-findings : goal.returns-in-Err-observe-clause-findings
 returns-in-Err-observe-clause-findings c =

@@ -1,9 +1,8 @@
 -- Intersections are updated, and a task that tells it waits.
-use Rattle.std.proofs.Common.{◌≡◌, ◌≤◌, ◌+◌, false, List, inl, refl, sym, ap, subst, ◌∙◌, arith}
-use Rattle.page_model.specs.World.{World, IntersectionObservers}
+use Rattle.std.proofs.Common.{◌≡◌, ◌<◌, ◌≤◌, ◌+◌, true, false, List, length, inl, refl, sym, ap, subst, ◌∙◌, arith}
+use Rattle.page_model.specs.World.{World, Tree, IntersectionObservers}
 use Rattle.page_model.specs.Shown.{shown_of}
-use Rattle.clip_chain.specs.Worlds.{scene_of}
-use Rattle.kept_clips.proofs.Looking.{changes_none}
+use Rattle.intersection_observer.specs.Serials.{HasSerials}
 use Rattle.kept_findings.specs.Held.{HeldFindings}
 use Rattle.kept_layout.specs.declared.slots.Slot.{Slot}
 use Rattle.intersection_update.specs.Keeping.{HaveChains, IsRefused}
@@ -15,10 +14,44 @@ use Rattle.page_laws.proofs.Changes.{same-next, update-next}
 use Rattle.page_state.specs.Boxes.{due_count}
 use Rattle.page_state.specs.Findings.{Updates, AreUpdated, TakesAtMost, settled_now}
 use Rattle.page_state.specs.Notices.{IsNoticed, once_told}
+use Rattle.page_state.specs.Quiet.{IsQuiet}
 use Rattle.page_state.specs.Views.{PageView}
-use Rattle.page_state.proofs.Updated.{now, world_queued, page_told, without_task, comes_to, moved, same_observers, none_lost, if_refused}
+use Rattle.page_state.proofs.Quiet.{quiet_updated, quiet_settled, updates_none}
+use Rattle.page_state.proofs.Updated.{now, world_queued, page_told, without_task, tree_queued, comes_to, moved, same_observers, none_lost, if_refused}
 use Rattle.page_state.proofs.Ready.{ready_by, stopped_told}
 use Rattle.page_state.proofs.page.Page.update_intersections.Goals as goal
+
+-- the document is as its last update left it
+pub returns-then-has-clause-updated : goal.returns-then-has-clause-updated
+returns-then-has-clause-updated g c =
+    let quiet = subst (λ (v : PageView). IsQuiet (shown_of v.world) v.world.scroll_margins c.args.document.0 v.world.intersection_observers v.found) c.self.view_is (c.self.invariant.quiet.each c.args.document.0 (sym c.has.ensures ∙ c.if-has.true)) in
+    sym (ap (λ (world : World). record c.args.self.now { world = world }) (quiet_updated c.args.document.0 c.args.self.now.world c.args.self.now.found quiet))
+
+pub returns-then-has-clause-boxes : goal.returns-then-has-clause-boxes
+returns-then-has-clause-boxes g c = fills_none c.args.self.now.kept
+
+pub returns-then-has-clause-unboxed : goal.returns-then-has-clause-unboxed
+returns-then-has-clause-unboxed g c = λ n none. refl
+
+pub returns-then-has-clause-settled : goal.returns-then-has-clause-settled
+returns-then-has-clause-settled g c =
+    let quiet = subst (λ (v : PageView). IsQuiet (shown_of v.world) v.world.scroll_margins c.args.document.0 v.world.intersection_observers v.found) c.self.view_is (c.self.invariant.quiet.each c.args.document.0 (sym c.has.ensures ∙ c.if-has.true)) in
+    quiet_settled c.args.document.0 c.args.self.now.world c.args.self.now.found quiet (subst (λ (v : PageView). HasSerials v.world.intersection_observers) c.self.view_is c.tell_serials.ensures)
+
+pub returns-then-has-clause-findings : goal.returns-then-has-clause-findings
+returns-then-has-clause-findings g c = updates_none (shown_of c.args.self.now.world) c.args.self.now.world.scroll_margins c.args.document.0 c.args.self.now.world.intersection_observers c.args.self.now.found
+
+pub returns-then-has-clause-fresh : goal.returns-then-has-clause-fresh
+returns-then-has-clause-fresh g c =
+    let quiet = subst (λ (v : PageView). IsQuiet (shown_of v.world) v.world.scroll_margins c.args.document.0 v.world.intersection_observers v.found) c.self.view_is (c.self.invariant.quiet.each c.args.document.0 (sym c.has.ensures ∙ c.if-has.true)) in
+    quiet.updated
+
+pub returns-then-has-clause-ticks : goal.returns-then-has-clause-ticks
+returns-then-has-clause-ticks g c = λ chained. omega arith
+
+pub settle_intersections-requires : goal.settle_intersections-requires
+settle_intersections-requires g c =
+    subst (λ (tree : Tree). c.args.document.0 < length tree.documents) (sym (ap (λ (v : PageView). v.world.tree) c.in_ok-queued.ensures.task ∙ tree_queued c.in_ok-queued.queued c.args.document.0 (c.args.self.now.world))) c.requires
 
 -- the task was refused: nothing is changed
 pub returns-in_err-queued-clause-rest : goal.returns-in_err-queued-clause-rest
@@ -44,14 +77,7 @@ returns-in_err-queued-clause-unboxed g c = subst (λ (v : PageView). LeavesUnbox
 pub returns-in_err-queued-clause-findings : goal.returns-in_err-queued-clause-findings
 returns-in_err-queued-clause-findings g c =
     subst (λ (v : PageView). Updates (shown_of c.args.self.now.world) c.args.self.now.world.scroll_margins c.args.document.0 c.args.self.now.world.intersection_observers c.args.self.now.found v.found) (sym c.in_err-queued.ensures.same)
-    (record {
-      touched = changes_none (scene_of (shown_of c.args.self.now.world)) c.args.self.now.found.seen c.args.self.now.found.clips.touches;
-      left = λ spot off. record { touch = refl; sighting = refl };
-      kept = λ chained serial fresh. refl;
-      others = λ serial apart. refl;
-      pairs = λ serial apart. refl;
-      computed = λ serial some. some;
-    })
+    (updates_none (shown_of c.args.self.now.world) c.args.self.now.world.scroll_margins c.args.document.0 c.args.self.now.world.intersection_observers c.args.self.now.found)
 
 pub returns-in_err-queued-clause-refused : goal.returns-in_err-queued-clause-refused
 returns-in_err-queued-clause-refused g c = λ chained.
