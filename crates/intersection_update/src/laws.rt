@@ -1,4 +1,4 @@
-//! The effect of an update, registration by registration, stated as the contract of an empty function.
+//! The effect of an update, registration by registration, and of a further one, each stated as the contract of an empty function.
 
 ghost use Rattle.std.specs.Prelude.{◌≡◌, ℕ, List, Some, true, false, slice_get};
 ghost use Rattle.script_model.specs.Margins.{Margins};
@@ -18,4 +18,11 @@ pub fn an_update_settles_each_registration_once()
         (intersection_observer_at (updated shown margins shown.tree document time it) watcher) }
     ensures others { (shown : Shown) (margins : List Margins) (document time watcher : ℕ) (it : IntersectionObservers) → is_rooted_in shown.tree document (intersection_observer_at it watcher).root ≡ false →
         intersection_observer_at (updated shown margins shown.tree document time it) watcher ≡ intersection_observer_at it watcher }
+{}
+
+/// A further update of a document, at whatever time, changes no observer while the same is shown: each registration holds what is
+/// found, so that nothing is news.
+pub fn a_further_update_is_no_news()
+    ensures { (shown : Shown) (margins : List Margins) (document earlier time : ℕ) (it : IntersectionObservers) →
+        updated shown margins shown.tree document time (updated shown margins shown.tree document earlier it) ≡ updated shown margins shown.tree document earlier it }
 {}

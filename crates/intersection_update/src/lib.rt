@@ -7,6 +7,6 @@ mod laws;
 mod rooted;
 mod settling;
 
-pub use laws::an_update_settles_each_registration_once;
+pub use laws::{a_further_update_is_no_news, an_update_settles_each_registration_once};
 pub use rooted::{have_entries, is_watched, watchers_of};
 pub use settling::{tell_serials, update};

@@ -1,5 +1,5 @@
 -- Documents that stay as their last update of intersections left them.
-use Rattle.std.proofs.Common.{◌≡◌, ◌∙◌, ◌<◌, ℕ, zero, suc, Bool, true, false, ◌==◌, List, [], ◌∷◌, map, length, Result, Ok, Err, OnOk, replicate, slice_set, inl, inr, refl, ap, sym, subst, arith, tests}
+use Rattle.std.proofs.Common.{◌≡◌, ◌∙◌, ◌<◌, ℕ, zero, suc, Bool, true, false, ◌==◌, List, [], ◌∷◌, map, length, Result, Ok, Err, OnOk, replicate, inl, inr, refl, ap, sym, subst, arith, tests}
 use Rattle.std.specs.Prelude.{is_ok}
 use Rattle.std.proofs.lemmas.Bool.{false≢true}
 use Rattle.script_model.specs.Margins.{Margins}
@@ -26,7 +26,7 @@ use Rattle.intersection_update.proofs.Each.{settled_each}
 use Rattle.intersection_update.proofs.Unwatched.{none_queued}
 use Rattle.page_boxes.specs.LaidOut.{is_marked}
 use Rattle.page_boxes.proofs.Marks.{none_marked, marked_else}
-use Rattle.page_state.specs.Findings.{Updates, settled_now}
+use Rattle.page_state.specs.Findings.{Updates}
 use Rattle.page_state.specs.Quiet.{IsQuiet, AreQuiet, NoneSettled, noted}
 use Rattle.page_state.proofs.Updated.{comes_to}
 

@@ -1,5 +1,5 @@
 -- Intersections are updated, and a task that tells it waits.
-use Rattle.std.proofs.Common.{◌≡◌, ◌<◌, ◌≤◌, ◌+◌, true, false, List, length, inl, refl, sym, ap, subst, ◌∙◌, arith}
+use Rattle.std.proofs.Common.{◌≡◌, ◌<◌, ◌≤◌, ◌+◌, false, List, length, inl, refl, sym, ap, subst, ◌∙◌, arith}
 use Rattle.page_model.specs.World.{World, Tree, IntersectionObservers}
 use Rattle.page_model.specs.Shown.{shown_of}
 use Rattle.intersection_observer.specs.Serials.{HasSerials}
