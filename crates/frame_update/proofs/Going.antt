@@ -12,8 +12,9 @@ use Rattle.trace_runs.specs.declared.faults.RunFault.{RunFault}
 use Rattle.trace_runs.specs.Flows.{goes_on}
 use Rattle.trace_runs.specs.Runs.{Runs}
 use Rattle.trace_runs.proofs.Following.{Following, begin, done, end_cut, go_on, rest_same}
-use Rattle.frame_update.specs.Goes.{handlers_of, loans_of, world_of, Goes, IsUnderWay}
-use Rattle.frame_update.specs.declared.run.Run.{Run}
+use Rattle.handlers.specs.Runs.{handlers_of, loans_of, world_of}
+use Rattle.frame_update.specs.Goes.{Goes, IsUnderWay}
+use Rattle.handlers.specs.declared.run.Run.{Run}
 
 module _ {K L A : Type 0} {taken : K → Option (List ℕ)} {faults : K → ℕ} {old new : Run K L} {said : Said World} where
   -- the fault is that of the step

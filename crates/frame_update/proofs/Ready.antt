@@ -1,7 +1,9 @@
 -- A page stays ready for the next step.
-use Rattle.std.proofs.Common.{◌≤◌, arith}
+use Rattle.std.proofs.Common.{◌≡◌, ◌≤◌, arith, subst, sym}
+use Rattle.std.specs.Borrow.{Bor}
 use Rattle.std.specs.Prelude.{ℕ, List, length}
 use Rattle.script_model.specs.Syntax.{Item}
+use Rattle.script_model.specs.Syntax as syntax
 use Rattle.script_model.specs.Scripts.{handlers_in}
 use Rattle.page_model.specs.Ranges.{counts_of}
 use Rattle.page_model.specs.World.{World}
@@ -23,6 +25,13 @@ prepared script world ready = record {
 -- and the other way round
 pub readied : (script : List Item) (world : World) → IsPrepared script world → IsReady script world
 readied script world ready = ready-of (length (handlers_in script)) world ready.range ready.limits
+
+-- for the script that was there first, which is the same
+pub readied_first : {now first : Bor syntax.Script} {world : World} → now ≡ first → IsPrepared now.now.items world → IsReady first.now.items world
+readied_first {now} {world = world} same ready = subst (λ (it : Bor syntax.Script). IsReady it.now.items world) same (readied now.now.items world ready)
+
+pub prepared_first : {now first : Bor syntax.Script} {world : World} → now ≡ first → IsReady first.now.items world → IsPrepared now.now.items world
+prepared_first {first = first} {world = world} same ready = subst (λ (it : Bor syntax.Script). IsPrepared it.now.items world) (sym same) (prepared first.now.items world ready)
 
 within_next : (before after : World) → IsNext before after → IsWithinLimits before → IsWithinLimits after
 within_next before after next within = as-many before within after next.observers next.queries next.successor.begun next.successor.version next.tasks

@@ -1,13 +1,14 @@
 //! Firing an event (DOM, 2.9 and 2.10).
 
-ghost use Rattle.frame_update.specs.Goes.{handlers_of, world_of, Goes, IsUnderWay};
+ghost use Rattle.handlers.specs.Runs.{handlers_of, world_of};
+ghost use Rattle.frame_update.specs.Goes.{Goes, IsUnderWay};
 ghost use Rattle.page_model.specs.Callbacks.{bubble, fire, invoke};
 ghost use Rattle.event_tables.specs.Seen.{seen_target};
 ghost use Rattle.trace_text.specs.Seen.{seen_event};
 
-use crate::run::{Run, call_handler};
+use crate::run::call_handler;
 use event_tables::EventTarget;
-use handlers::Entries;
+use handlers::{Entries, Run};
 use page_state::Label;
 use std::sync::ledger::Ledger;
 use text_io::{EventKind, Sink};
@@ -17,7 +18,7 @@ use trace_text::{EventLine, TraceLine};
 // Calls the listeners at one target, copied when the event reaches it, each if it is still registered at its turn (DOM, 2.9:
 // inner invoke).
 fn invoke<K: Sink, L: Ledger>(
-    run: &mut Run<'_, K, L>,
+    run: &mut Run<K, L>,
     target: EventTarget,
     event: EventKind,
 ) -> Result<(), RunFault>
@@ -37,7 +38,7 @@ fn invoke<K: Sink, L: Ledger>(
 
 // A scroll event at a document bubbles to its window (CSSOM View, 13: scrolling).
 fn bubble<K: Sink, L: Ledger>(
-    run: &mut Run<'_, K, L>,
+    run: &mut Run<K, L>,
     target: EventTarget,
     event: EventKind,
 ) -> Result<(), RunFault>
@@ -55,7 +56,7 @@ fn bubble<K: Sink, L: Ledger>(
 
 /// Fires an event (DOM, 2.10): writes its line, and then calls its listeners.
 pub(crate) fn fire<K: Sink, L: Ledger>(
-    run: &mut Run<'_, K, L>,
+    run: &mut Run<K, L>,
     line: EventLine,
     target: EventTarget,
     event: EventKind,

@@ -1,7 +1,8 @@
 //! Animation frame callbacks (HTML, animation frames).
 
 ghost use Rattle.std.specs.Prelude.{◌≡◌, true, Some, [], ◌∷◌};
-ghost use Rattle.frame_update.specs.Goes.{handlers_of, world_of, Goes, IsUnderWay};
+ghost use Rattle.handlers.specs.Runs.{handlers_of, world_of};
+ghost use Rattle.frame_update.specs.Goes.{Goes, IsUnderWay};
 ghost use Rattle.script_model.specs.TraceLines.{FrameLine};
 ghost use Rattle.page_model.specs.Callbacks.{NoEntries, call};
 ghost use Rattle.page_model.specs.Documents.{is_active};
@@ -9,10 +10,10 @@ ghost use Rattle.page_model.specs.Names.{document_text};
 ghost use Rattle.page_model.specs.Runs.{say, ◌followed_by◌};
 ghost use Rattle.page_model.specs.Ticks.{frame_steps};
 
-use crate::run::{Run, call_handler};
+use crate::run::call_handler;
 use element_tree::DocumentId;
 use event_tables::{EventTarget, HandlerId};
-use handlers::Entries;
+use handlers::{Entries, Run};
 use page_state::Label;
 use std::sync::ledger::Ledger;
 use text_io::{Name, Sink};
@@ -21,7 +22,7 @@ use trace_text::TraceLine;
 
 // Runs a frame callback that was removed from the table: its line, and its callback.
 fn run_frame_callback<K: Sink, L: Ledger>(
-    run: &mut Run<'_, K, L>,
+    run: &mut Run<K, L>,
     document: DocumentId,
     key: Name,
     handler: HandlerId,
@@ -42,7 +43,7 @@ fn run_frame_callback<K: Sink, L: Ledger>(
 /// Runs the frame callbacks of a document that were requested before, each if it is still registered at its turn, as long as
 /// the document is Active (HTML, run the animation frame callbacks).
 pub(crate) fn frame_steps<K: Sink, L: Ledger>(
-    run: &mut Run<'_, K, L>,
+    run: &mut Run<K, L>,
     document: DocumentId,
 ) -> Result<(), RunFault>
     requires ready { IsUnderWay run.old }

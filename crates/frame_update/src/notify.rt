@@ -3,13 +3,14 @@
 ghost use Rattle.std.specs.Prelude.{◌<◌, length};
 ghost use Rattle.page_model.specs.Intersections.{notify, notify_watcher};
 ghost use Rattle.page_model.specs.World.{Notify};
-ghost use Rattle.frame_update.specs.Goes.{handlers_of, world_of, Goes, IsUnderWay};
+ghost use Rattle.handlers.specs.Runs.{handlers_of, world_of};
+ghost use Rattle.frame_update.specs.Goes.{Goes, IsUnderWay};
 ghost use Rattle.frame_update.specs.Ready.{IsPrepared};
 ghost use Rattle.page_laws.specs.Ready.{with_first};
 
-use crate::run::{Run, call_handler};
+use crate::run::call_handler;
 use element_tree::DocumentId;
-use handlers::Entries;
+use handlers::{Entries, Run};
 use intersection_observer::WatcherId;
 use page_state::Label;
 use std::sync::ledger::Ledger;
@@ -18,7 +19,7 @@ use trace_runs::RunFault;
 
 // Takes the queue of an observer and, unless it is empty, calls the observer's callback with the entries.
 fn notify_watcher<K: Sink, L: Ledger>(
-    run: &mut Run<'_, K, L>,
+    run: &mut Run<K, L>,
     watcher: WatcherId,
 ) -> Result<(), RunFault>
     requires ready { IsUnderWay run.old }
@@ -38,7 +39,7 @@ fn notify_watcher<K: Sink, L: Ledger>(
 /// of each of its observers at its turn, in creation order, and calls the observer with the entries, if there are any
 /// (Intersection Observer, 3.2.4).
 pub(crate) fn notify<K: Sink, L: Ledger>(
-    run: &mut Run<'_, K, L>,
+    run: &mut Run<K, L>,
     document: DocumentId,
 ) -> Result<(), RunFault>
     requires ready { IsPrepared run.old.script.now.items (with_first (Notify document.0) (world_of run.old)) }

@@ -11,18 +11,19 @@ ghost use Rattle.page_model.specs.Runs.{lifted};
 ghost use Rattle.depth_gather.specs.Entries.{seen_entry, HasLengths};
 ghost use Rattle.loop_laws.specs.Rounds.{goes_on as has_round, round_depth};
 ghost use Rattle.page_laws.specs.Ready.{IsReadyFor};
-ghost use Rattle.frame_update.specs.Goes.{handlers_of, world_of, Goes, IsUnderWay};
+ghost use Rattle.handlers.specs.Runs.{handlers_of, world_of};
+ghost use Rattle.frame_update.specs.Goes.{Goes, IsUnderWay};
 ghost use Rattle.frame_update.specs.Turns.{least_with, AreEntriesIn};
 
 use crate::events::fire;
-use crate::run::{Run, call_handler};
+use crate::run::call_handler;
 use depth_gather::{
     Delivery, entries_are_those_of_a_broadcast, least_depth,
     something_is_active_where_it_is_counted,
 };
 use element_tree::DocumentId;
 use event_tables::EventTarget;
-use handlers::Entries;
+use handlers::{Entries, Run};
 use loop_laws::resize_loops_come_to_rest;
 use page_state::{Label, Page};
 use resize_observer::ObserverId;
@@ -56,7 +57,7 @@ fn end_turn(page: &mut Page, document: DocumentId, observer: ObserverId)
 // Calls the callback of an observer at its turn, and then clears its active list, if the document is still Active. A limit
 // that the callback meets ends the turn too, so the list is cleared then as well.
 fn call_observer<K: Sink, L: Ledger>(
-    run: &mut Run<'_, K, L>,
+    run: &mut Run<K, L>,
     document: DocumentId,
     delivery: Delivery,
 ) -> Result<(), RunFault>
@@ -88,7 +89,7 @@ fn call_observer<K: Sink, L: Ledger>(
 // Broadcasts the active observations of a document, as long as it is Active, by index, since a callback may create observers
 // (Resize Observer, 3.4: broadcast active observations). Returns the least depth of the entries.
 fn broadcast<K: Sink, L: Ledger>(
-    run: &mut Run<'_, K, L>,
+    run: &mut Run<K, L>,
     document: DocumentId,
 ) -> Result<Option<u32>, RunFault>
     requires ready { IsUnderWay run.old }
@@ -132,7 +133,7 @@ fn gather<L: Ledger>(
 // Runs a round: its deliveries and, if the document is still Active then, its line and the gathering at its depth. Returns
 // that depth if a further round follows.
 fn round<K: Sink, L: Ledger>(
-    run: &mut Run<'_, K, L>,
+    run: &mut Run<K, L>,
     document: DocumentId,
 ) -> Result<Option<u32>, RunFault>
     requires ready { IsUnderWay run.old }
@@ -154,7 +155,7 @@ fn round<K: Sink, L: Ledger>(
 // Fires the error event, if something was skipped when observations were last gathered (Resize Observer, 3.4: deliver resize
 // loop error).
 fn report_skipped<K: Sink, L: Ledger>(
-    run: &mut Run<'_, K, L>,
+    run: &mut Run<K, L>,
     document: DocumentId,
 ) -> Result<(), RunFault>
     requires ready { IsUnderWay run.old }
@@ -171,7 +172,7 @@ fn report_skipped<K: Sink, L: Ledger>(
 /// Alternates gathering, at first at depth 0, and broadcasting, as long as there are active observations (HTML, update the
 /// rendering).
 pub(crate) fn resize_loop<K: Sink, L: Ledger>(
-    run: &mut Run<'_, K, L>,
+    run: &mut Run<K, L>,
     document: DocumentId,
 ) -> Result<(), RunFault>
     requires ready { IsUnderWay run.old }

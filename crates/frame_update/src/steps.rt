@@ -2,7 +2,8 @@
 
 ghost use Rattle.std.specs.Prelude.{◌≡◌, ◌<◌, true, length};
 ghost use Rattle.page_model.specs.Documents.{is_active};
-ghost use Rattle.frame_update.specs.Goes.{handlers_of, world_of, Goes, IsUnderWay};
+ghost use Rattle.handlers.specs.Runs.{handlers_of, world_of};
+ghost use Rattle.frame_update.specs.Goes.{Goes, IsUnderWay};
 ghost use Rattle.page_model.specs.Ticks.{event_target_of, media_steps, resize_steps, scroll_steps};
 ghost use Rattle.page_model.specs.Callbacks.{fire, while_active};
 ghost use Rattle.page_model.specs.Ranges.{IsScrollIn, counts_of};
@@ -13,9 +14,9 @@ ghost use Rattle.container_model.specs.Seen.{seen_container};
 ghost use Rattle.text_io.specs.declared.kinds.EventKind.TheVariants as events;
 
 use crate::events::fire;
-use crate::run::Run;
 use element_tree::{Container, DocumentId};
 use event_tables::EventTarget;
+use handlers::Run;
 use page_state::{Change, Label};
 use std::sync::ledger::Ledger;
 use text_io::{EventKind, Sink};
@@ -25,7 +26,7 @@ use trace_text::EventLine;
 /// Runs the resize steps of a document: records the size of its viewport, and fires the event if it differs from the one
 /// recorded before (CSSOM View, 13: run the resize steps).
 pub(crate) fn resize_steps<K: Sink, L: Ledger>(
-    run: &mut Run<'_, K, L>,
+    run: &mut Run<K, L>,
     document: DocumentId,
 ) -> Result<(), RunFault>
     requires ready { IsUnderWay run.old }
@@ -42,7 +43,7 @@ pub(crate) fn resize_steps<K: Sink, L: Ledger>(
 
 // Fires the event of a target that scrolled, if the document is still Active.
 fn scroll_step<K: Sink, L: Ledger>(
-    run: &mut Run<'_, K, L>,
+    run: &mut Run<K, L>,
     document: DocumentId,
     target: Container,
 ) -> Result<(), RunFault>
@@ -65,7 +66,7 @@ fn scroll_step<K: Sink, L: Ledger>(
 /// Runs the scroll steps of a document: takes its whole pending list, and fires an event at each target (CSSOM View, 13: run
 /// the scroll steps).
 pub(crate) fn scroll_steps<K: Sink, L: Ledger>(
-    run: &mut Run<'_, K, L>,
+    run: &mut Run<K, L>,
     document: DocumentId,
 ) -> Result<(), RunFault>
     requires ready { IsUnderWay run.old }
@@ -79,10 +80,7 @@ pub(crate) fn scroll_steps<K: Sink, L: Ledger>(
 }
 
 // Fires the event of a query list whose state changed.
-fn report_change<K: Sink, L: Ledger>(
-    run: &mut Run<'_, K, L>,
-    change: Change,
-) -> Result<(), RunFault>
+fn report_change<K: Sink, L: Ledger>(run: &mut Run<K, L>, change: Change) -> Result<(), RunFault>
     requires ready { IsUnderWay run.old }
     requires query { change.query < length (world_of run.old).queries }
     ensures { Goes K.taken K.faults run.old run.new result
@@ -96,7 +94,7 @@ fn report_change<K: Sink, L: Ledger>(
 /// Evaluates the query lists of a document, as long as it is Active, by index, since a listener may create more (CSSOM View,
 /// 4.2: evaluate media queries and report changes).
 pub(crate) fn media_steps<K: Sink, L: Ledger>(
-    run: &mut Run<'_, K, L>,
+    run: &mut Run<K, L>,
     document: DocumentId,
 ) -> Result<(), RunFault>
     requires ready { IsUnderWay run.old }

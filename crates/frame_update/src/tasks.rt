@@ -2,7 +2,8 @@
 
 ghost use Rattle.std.specs.Prelude.{◌≡◌, ◌<◌, length};
 ghost use Rattle.script_model.specs.Scripts.{handlers_in};
-ghost use Rattle.frame_update.specs.Goes.{handlers_of, world_of, Goes, IsUnderWay};
+ghost use Rattle.handlers.specs.Runs.{handlers_of, world_of};
+ghost use Rattle.frame_update.specs.Goes.{Goes, IsUnderWay};
 ghost use Rattle.frame_update.specs.Ready.{IsPrepared};
 ghost use Rattle.page_laws.specs.Ready.{with_first};
 ghost use Rattle.page_model.specs.Ticks.{run_task, run_tasks};
@@ -11,10 +12,10 @@ ghost use Rattle.page_model.specs.World.{Posted};
 ghost use Rattle.event_tables.specs.Seen.{seen_task};
 
 use crate::notify::notify;
-use crate::run::{Run, call_handler};
+use crate::run::call_handler;
 use element_tree::DocumentId;
 use event_tables::{EventTarget, HandlerId, Task};
-use handlers::Entries;
+use handlers::{Entries, Run};
 use loop_laws::runs_of_tasks_come_to_rest;
 use page_state::Label;
 use script_syntax::Script;
@@ -25,7 +26,7 @@ use trace_text::TraceLine;
 
 // Runs a posted task, if its document is Active: its line, and its callback.
 fn run_posted<K: Sink, L: Ledger>(
-    run: &mut Run<'_, K, L>,
+    run: &mut Run<K, L>,
     document: DocumentId,
     handler: HandlerId,
 ) -> Result<(), RunFault>
@@ -45,7 +46,7 @@ fn run_posted<K: Sink, L: Ledger>(
 }
 
 // Runs a task that was popped.
-fn run_task<K: Sink, L: Ledger>(run: &mut Run<'_, K, L>, task: Task) -> Result<(), RunFault>
+fn run_task<K: Sink, L: Ledger>(run: &mut Run<K, L>, task: Task) -> Result<(), RunFault>
     requires ready { IsPrepared run.old.script.now.items (with_first (seen_task task) (world_of run.old)) }
     ensures { Goes K.taken K.faults run.old run.new result (run_task (handlers_of run.old) (seen_task task) (world_of run.old)) }
 {
@@ -56,7 +57,7 @@ fn run_task<K: Sink, L: Ledger>(run: &mut Run<'_, K, L>, task: Task) -> Result<(
 }
 
 /// Pops and runs the first task, until none is left (HTML, 8.1.7).
-pub(crate) fn run_tasks<K: Sink, L: Ledger>(run: &mut Run<'_, K, L>) -> Result<(), RunFault>
+pub(crate) fn run_tasks<K: Sink, L: Ledger>(run: &mut Run<K, L>) -> Result<(), RunFault>
     requires ready { IsUnderWay run.old }
     ensures { Goes K.taken K.faults run.old run.new result (run_tasks (handlers_of run.old) (world_of run.old)) }
 {

@@ -3,34 +3,31 @@
 ghost use Rattle.std.specs.Prelude.{◌≡◌};
 ghost use Rattle.std.specs.List.{AllByRecursion};
 ghost use Rattle.script_model.specs.Syntax.{Tick};
-ghost use Rattle.script_model.specs.Scripts.{handlers_in};
 ghost use Rattle.script_syntax.specs.Allowed.{IsTime};
 ghost use Rattle.page_model.specs.Outcome.{run_tick};
 ghost use Rattle.page_model.specs.Runs.{caught};
 ghost use Rattle.page_model.specs.Ticks.{tick};
 ghost use Rattle.loop_laws.specs.RunLoops.{item_loops, IsExact};
 ghost use Rattle.trace_runs.specs.Flows.{goes_on};
-ghost use Rattle.trace_runs.specs.Runs.{Runs};
 ghost use Rattle.frame_update.specs.Answers.{Refused};
-ghost use Rattle.frame_update.specs.Goes.{handlers_of, world_of, Goes, IsUnderWay};
-ghost use Rattle.frame_update.specs.Ready.{IsPrepared, IsReady};
+ghost use Rattle.handlers.specs.Runs.{handlers_of, world_of, Carries, IsHeld};
+ghost use Rattle.frame_update.specs.Goes.{Goes, IsUnderWay};
+ghost use Rattle.frame_update.specs.Ready.{IsReady};
 
-use crate::run::Run;
 use crate::tasks::run_tasks;
 use crate::timers::run_timers;
 use crate::update::update_rendering;
+use handlers::Run;
 use loop_laws::listed_loops_are_exact;
-use page_state::{Page, PageFault};
-use script_syntax::Script;
+use page_state::PageFault;
 use std::alloc::Global;
 use std::sync::ledger::Ledger;
-use step_count::Steps;
 use text_io::{Sink, Version};
 use trace_runs::{RunFault, write_one};
 use trace_text::TraceLine;
 
 // Runs a tick whose time is set: the due timers, an update of the rendering, and the tasks.
-fn run_parts<K: Sink, L: Ledger>(run: &mut Run<'_, K, L>, time: u64) -> Result<(), RunFault>
+fn run_parts<K: Sink, L: Ledger>(run: &mut Run<K, L>, time: u64) -> Result<(), RunFault>
     requires ready { IsUnderWay run.old }
     requires time { (world_of run.old).clock ≡ time }
     ensures { Goes K.taken K.faults run.old run.new result (tick (handlers_of run.old) (world_of run.old)) }
@@ -39,31 +36,6 @@ fn run_parts<K: Sink, L: Ledger>(run: &mut Run<'_, K, L>, time: u64) -> Result<(
     run_timers(run)?;
     update_rendering(run)?;
     run_tasks(run)
-}
-
-// The same, with a `Run` of these, which are borrowed for one lifetime.
-fn run_timed<'a, K: Sink, L: Ledger>(
-    alloc: Global,
-    page: &'a mut Page,
-    script: &'a Script,
-    time: u64,
-    sink: &'a mut K,
-    steps: &'a mut Steps<L>,
-) -> Result<(), RunFault>
-    requires ready { IsPrepared script.now.items page.old.world }
-    requires time { page.old.world.clock ≡ time }
-    ensures says { Runs goes_on page.new.world result (K.taken sink.old) (K.taken sink.new) (K.faults sink.old) (K.faults sink.new)
-        (tick (handlers_in script.now.items) page.old.world) }
-    ensures ready { IsPrepared script.now.items page.new.world }
-{
-    let mut run = Run {
-        alloc,
-        page,
-        script,
-        sink,
-        steps,
-    };
-    run_parts(&mut run, time)
 }
 
 // Handles the error of a call: an exception is written and ends the tick, a limit ends the run. The version is that of the
@@ -102,28 +74,20 @@ fn refuse<K: Sink>(
 ///   is that of the definition at the limit.
 /// - `Memory`, and `WriteFault` only if the sink's fault count rose in this call; either may come before a limit. A prefix of
 ///   the lines was written, and of the page's world, which may be one inside of a step, only that it is ready is said.
-pub fn tick<K: Sink, L: Ledger>(
-    alloc: Global,
-    page: &mut Page,
-    script: &Script,
-    line: u32,
-    time: u64,
-    sink: &mut K,
-    steps: &mut Steps<L>,
-) -> Result<(), RunFault>
-    requires ready { IsReady script.now.items page.old.world }
+pub fn tick<K: Sink, L: Ledger>(run: &mut Run<K, L>, line: u32, time: u64) -> Result<(), RunFault>
+    requires ready { IsReady run.old.script.now.items (world_of run.old) }
     requires time { IsTime time }
-    ensures says { Runs goes_on page.new.world result (K.taken sink.old) (K.taken sink.new) (K.faults sink.old) (K.faults sink.new)
-        (caught (run_tick (handlers_in script.now.items) line time page.old.world)) }
-    ensures loops { AllByRecursion (IsExact (handlers_in script.now.items)) (item_loops (handlers_in script.now.items) (Tick line time) page.old.world) }
-    ensures ready { IsReady script.now.items page.new.world }
+    ensures says { Carries goes_on K.taken K.faults run.old run.new result (caught (run_tick (handlers_of run.old) line time (world_of run.old))) }
+    ensures loops { AllByRecursion (IsExact (handlers_of run.old)) (item_loops (handlers_of run.old) (Tick line time) (world_of run.old)) }
+    ensures ready { IsReady run.old.script.now.items (world_of run.new) }
+    ensures held { IsHeld run.old run.new }
 {
     listed_loops_are_exact();
-    if let Err(fault) = page.begin_command() {
-        return refuse(alloc, line, fault, page.version(), sink);
+    if let Err(fault) = run.page.begin_command() {
+        return refuse(run.alloc, line, fault, run.page.version(), run.sink);
     }
-    if let Err(fault) = page.set_time(time) {
-        return refuse(alloc, line, fault, page.version(), sink);
+    if let Err(fault) = run.page.set_time(time) {
+        return refuse(run.alloc, line, fault, run.page.version(), run.sink);
     }
-    run_timed(alloc, page, script, time, sink, steps)
+    run_parts(run, time)
 }

@@ -1,17 +1,18 @@
 //! The timers that are due when a tick begins (HTML, timers).
 
 ghost use Rattle.std.specs.Prelude.{Some};
-ghost use Rattle.frame_update.specs.Goes.{handlers_of, world_of, Goes, IsUnderWay};
+ghost use Rattle.handlers.specs.Runs.{handlers_of, world_of};
+ghost use Rattle.frame_update.specs.Goes.{Goes, IsUnderWay};
 ghost use Rattle.script_model.specs.TraceLines.{TimerLine};
 ghost use Rattle.page_model.specs.Callbacks.{NoEntries, call};
 ghost use Rattle.page_model.specs.Names.{document_text};
 ghost use Rattle.page_model.specs.Runs.{say, ◌followed_by◌};
 ghost use Rattle.page_model.specs.Ticks.{line_while_active, run_timers};
 
-use crate::run::{Run, call_handler};
+use crate::run::call_handler;
 use element_tree::DocumentId;
 use event_tables::{EventTarget, HandlerId};
-use handlers::Entries;
+use handlers::{Entries, Run};
 use page_state::Label;
 use std::sync::ledger::Ledger;
 use text_io::{Name, Sink};
@@ -20,7 +21,7 @@ use trace_text::TraceLine;
 
 // Runs a timer that was removed from the table, if its document is Active: its line, and its callback.
 fn run_timer<K: Sink, L: Ledger>(
-    run: &mut Run<'_, K, L>,
+    run: &mut Run<K, L>,
     document: DocumentId,
     key: Name,
     handler: HandlerId,
@@ -41,7 +42,7 @@ fn run_timer<K: Sink, L: Ledger>(
 }
 
 /// Runs the timers that are due at the clock's time, each if it is still set at its turn (HTML, timers).
-pub(crate) fn run_timers<K: Sink, L: Ledger>(run: &mut Run<'_, K, L>) -> Result<(), RunFault>
+pub(crate) fn run_timers<K: Sink, L: Ledger>(run: &mut Run<K, L>) -> Result<(), RunFault>
     requires ready { IsUnderWay run.old }
     ensures { Goes K.taken K.faults run.old run.new result (run_timers (handlers_of run.old) (world_of run.old)) }
 {

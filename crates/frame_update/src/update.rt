@@ -7,13 +7,14 @@ ghost use Rattle.page_model.specs.Callbacks.{while_active};
 ghost use Rattle.page_model.specs.Runs.{for_each};
 ghost use Rattle.page_model.specs.Ticks.{update_rendering};
 ghost use Rattle.frame_update.specs.Parts.{part_of};
-ghost use Rattle.frame_update.specs.Goes.{handlers_of, world_of, Goes, IsUnderWay};
+ghost use Rattle.handlers.specs.Runs.{handlers_of, world_of};
+ghost use Rattle.frame_update.specs.Goes.{Goes, IsUnderWay};
 
 use crate::frames::frame_steps;
 use crate::rounds::resize_loop;
-use crate::run::Run;
 use crate::steps::{media_steps, resize_steps, scroll_steps};
 use element_tree::DocumentId;
+use handlers::Run;
 use std::sync::ledger::Ledger;
 use text_io::Sink;
 use trace_runs::RunFault;
@@ -41,7 +42,7 @@ const PARTS: [Part; 6] = [
 
 // Runs a part of an update for one document, which is Active.
 fn run_part<K: Sink, L: Ledger>(
-    run: &mut Run<'_, K, L>,
+    run: &mut Run<K, L>,
     part: Part,
     document: DocumentId,
 ) -> Result<(), RunFault>
@@ -64,7 +65,7 @@ fn run_part<K: Sink, L: Ledger>(
 
 // The same, if the document is still Active.
 fn run_while_active<K: Sink, L: Ledger>(
-    run: &mut Run<'_, K, L>,
+    run: &mut Run<K, L>,
     part: Part,
     document: DocumentId,
 ) -> Result<(), RunFault>
@@ -79,7 +80,7 @@ fn run_while_active<K: Sink, L: Ledger>(
 
 // Runs a part of an update for each of these documents that is Active at its turn.
 fn run_for_each<K: Sink, L: Ledger>(
-    run: &mut Run<'_, K, L>,
+    run: &mut Run<K, L>,
     part: Part,
     documents: &[DocumentId],
 ) -> Result<(), RunFault>
@@ -95,7 +96,7 @@ fn run_for_each<K: Sink, L: Ledger>(
 
 /// Updates the rendering: runs each part for all documents that are Active when the update begins, skipping those that no
 /// longer are.
-pub(crate) fn update_rendering<K: Sink, L: Ledger>(run: &mut Run<'_, K, L>) -> Result<(), RunFault>
+pub(crate) fn update_rendering<K: Sink, L: Ledger>(run: &mut Run<K, L>) -> Result<(), RunFault>
     requires ready { IsUnderWay run.old }
     ensures { Goes K.taken K.faults run.old run.new result (update_rendering (handlers_of run.old) (world_of run.old)) }
 {

@@ -4,3 +4,4 @@ mod Blocks
 mod Growing
 mod Handlers
 pub mod Telling
+pub mod Held

@@ -1,25 +1,20 @@
 //! Running commands with their blocks.
 
-ghost use Rattle.std.specs.Prelude.{length};
-ghost use Rattle.script_model.specs.Scripts.{handlers_in};
 ghost use Rattle.script_syntax.specs.Allowed.{IsAllowed, TestAllowed};
 ghost use Rattle.script_syntax.specs.Seen.{command_of, condition_of};
 ghost use Rattle.page_model.specs.Callbacks.{answered, presents, run_block, run_command};
 ghost use Rattle.page_model.specs.Commands.{holds};
 ghost use Rattle.page_model.specs.Runs.{for_each, only_if};
-ghost use Rattle.page_laws.specs.Ready.{IsReadyFor};
 ghost use Rattle.trace_runs.specs.Flows.{flow_of};
-ghost use Rattle.trace_runs.specs.Runs.{Runs};
 ghost use Rattle.handlers.specs.Entries.{entries_of, present_at, AreIn};
+ghost use Rattle.handlers.specs.Runs.{handlers_of, world_of, Carries, IsHeld, StaysReady};
 
 use crate::entries::{Entries, subject_at};
+use crate::run::Run;
 use crate::steps::{apply, refuse};
 use page_laws::runs_take_nothing_back;
-use page_state::Page;
-use script_syntax::{Command, CommandList, Condition, Script, What};
-use std::alloc::Global;
+use script_syntax::{Command, CommandList, Condition, What};
 use std::sync::ledger::Ledger;
-use step_count::Steps;
 use text_io::Sink;
 use trace_runs::{Flow, RunFault, write_throw};
 
@@ -36,50 +31,34 @@ use trace_runs::{Flow, RunFault, write_throw};
 ///   the lines was written, and of the page's world, which may be one inside of a step, only that it is ready is said.
 #[cycle(blocks)]
 pub fn run_command<K: Sink, L: Ledger>(
-    alloc: Global,
-    page: &mut Page,
-    script: &Script,
+    run: &mut Run<K, L>,
     command: &Command,
     entries: &Entries,
     subject: Option<usize>,
-    sink: &mut K,
-    steps: &mut Steps<L>,
 ) -> Result<Flow, RunFault>
     requires allowed { IsAllowed command.now }
-    requires targets { AreIn page.old.world (presents (entries_of entries.now)) }
-    ensures says { Runs flow_of page.new.world result (K.taken sink.old) (K.taken sink.new) (K.faults sink.old) (K.faults sink.new)
-        (run_command (handlers_in script.now.items) (presents (entries_of entries.now)) (command_of command.now) (present_at (presents (entries_of entries.now)) subject) page.old.world) }
-    ensures ready { IsReadyFor (length (handlers_in script.now.items)) page.old.world → IsReadyFor (length (handlers_in script.now.items)) page.new.world }
+    requires targets { AreIn (world_of run.old) (presents (entries_of entries.now)) }
+    ensures says { Carries flow_of K.taken K.faults run.old run.new result
+        (run_command (handlers_of run.old) (presents (entries_of entries.now)) (command_of command.now) (present_at (presents (entries_of entries.now)) subject) (world_of run.old)) }
+    ensures ready { StaysReady run.old run.new }
+    ensures held { IsHeld run.old run.new }
 {
-    if let Err(fault) = page.begin_command() {
-        return refuse(alloc, command.line, fault, page.version(), sink);
+    if let Err(fault) = run.page.begin_command() {
+        return refuse(run.alloc, command.line, fault, run.page.version(), run.sink);
     }
     match &command.what {
         What::Act(action) => {
             let present = subject_at(entries, subject);
-            apply(
-                alloc,
-                page,
-                script,
-                command.line,
-                action,
-                present,
-                sink,
-                steps,
-            )
+            apply(run, command.line, action, present)
         }
-        What::Each(body) => run_each(alloc, page, script, &body.commands, entries, sink, steps),
+        What::Each(body) => run_each(run, &body.commands, entries),
         What::When(condition, body) => run_when(
-            alloc,
-            page,
-            script,
+            run,
             command.line,
             condition,
             &body.commands,
             entries,
             subject,
-            sink,
-            steps,
         ),
     }
 }
@@ -87,31 +66,19 @@ pub fn run_command<K: Sink, L: Ledger>(
 // Runs an `each` that was begun: its block for each of the entries.
 #[cycle(blocks)]
 fn run_each<K: Sink, L: Ledger>(
-    alloc: Global,
-    page: &mut Page,
-    script: &Script,
+    run: &mut Run<K, L>,
     block: &CommandList,
     entries: &Entries,
-    sink: &mut K,
-    steps: &mut Steps<L>,
 ) -> Result<Flow, RunFault>
-    requires targets { AreIn page.old.world (presents (entries_of entries.now)) }
-    ensures says { Runs flow_of page.new.world result (K.taken sink.old) (K.taken sink.new) (K.faults sink.old) (K.faults sink.new)
-        (for_each (run_block (handlers_in script.now.items) (presents (entries_of entries.now)) block.now) (presents (entries_of entries.now)) page.old.world) }
-    ensures ready { IsReadyFor (length (handlers_in script.now.items)) page.old.world → IsReadyFor (length (handlers_in script.now.items)) page.new.world }
+    requires targets { AreIn (world_of run.old) (presents (entries_of entries.now)) }
+    ensures says { Carries flow_of K.taken K.faults run.old run.new result
+        (for_each (run_block (handlers_of run.old) (presents (entries_of entries.now)) block.now) (presents (entries_of entries.now)) (world_of run.old)) }
+    ensures ready { StaysReady run.old run.new }
+    ensures held { IsHeld run.old run.new }
 {
     runs_take_nothing_back();
     for place in 0..entries.count() {
-        match run_block(
-            alloc,
-            page,
-            script,
-            block,
-            entries,
-            Some(place),
-            sink,
-            steps,
-        ) {
+        match run_block(run, block, entries, Some(place)) {
             Ok(Flow::Next) => {}
             Ok(Flow::Thrown) => return Ok(Flow::Thrown),
             Err(fault) => return Err(fault),
@@ -123,30 +90,30 @@ fn run_each<K: Sink, L: Ledger>(
 // Runs a `when` that was begun: its block if the condition holds.
 #[cycle(blocks)]
 fn run_when<K: Sink, L: Ledger>(
-    alloc: Global,
-    page: &mut Page,
-    script: &Script,
+    run: &mut Run<K, L>,
     line: u32,
     condition: &Condition,
     block: &CommandList,
     entries: &Entries,
     subject: Option<usize>,
-    sink: &mut K,
-    steps: &mut Steps<L>,
 ) -> Result<Flow, RunFault>
     requires allowed { TestAllowed condition.now.asks }
-    requires targets { AreIn page.old.world (presents (entries_of entries.now)) }
-    ensures says { Runs flow_of page.new.world result (K.taken sink.old) (K.taken sink.new) (K.faults sink.old) (K.faults sink.new)
-        (answered line page.old.world
-        (only_if (run_block (handlers_in script.now.items) (presents (entries_of entries.now)) block.now (present_at (presents (entries_of entries.now)) subject)) page.old.world)
-        (holds page.old.world (present_at (presents (entries_of entries.now)) subject) (condition_of condition.now))) }
-    ensures ready { IsReadyFor (length (handlers_in script.now.items)) page.old.world → IsReadyFor (length (handlers_in script.now.items)) page.new.world }
+    requires targets { AreIn (world_of run.old) (presents (entries_of entries.now)) }
+    ensures says { Carries flow_of K.taken K.faults run.old run.new result
+        (answered line (world_of run.old)
+        (only_if (run_block (handlers_of run.old) (presents (entries_of entries.now)) block.now (present_at (presents (entries_of entries.now)) subject)) (world_of run.old))
+        (holds (world_of run.old) (present_at (presents (entries_of entries.now)) subject) (condition_of condition.now))) }
+    ensures ready { StaysReady run.old run.new }
+    ensures held { IsHeld run.old run.new }
 {
     let present = subject_at(entries, subject);
-    match page.holds(condition, present.target, present.meets, steps) {
-        Ok(true) => run_block(alloc, page, script, block, entries, subject, sink, steps),
+    match run
+        .page
+        .holds(condition, present.target, present.meets, run.steps)
+    {
+        Ok(true) => run_block(run, block, entries, subject),
         Ok(false) => Ok(Flow::Next),
-        Err(kind) => write_throw(alloc, line, kind, sink),
+        Err(kind) => write_throw(run.alloc, line, kind, run.sink),
     }
 }
 
@@ -154,23 +121,20 @@ fn run_when<K: Sink, L: Ledger>(
 /// `run_command`.
 #[cycle(blocks)]
 pub(crate) fn run_block<K: Sink, L: Ledger>(
-    alloc: Global,
-    page: &mut Page,
-    script: &Script,
+    run: &mut Run<K, L>,
     block: &CommandList,
     entries: &Entries,
     subject: Option<usize>,
-    sink: &mut K,
-    steps: &mut Steps<L>,
 ) -> Result<Flow, RunFault>
-    requires targets { AreIn page.old.world (presents (entries_of entries.now)) }
-    ensures says { Runs flow_of page.new.world result (K.taken sink.old) (K.taken sink.new) (K.faults sink.old) (K.faults sink.new)
-        (run_block (handlers_in script.now.items) (presents (entries_of entries.now)) block.now (present_at (presents (entries_of entries.now)) subject) page.old.world) }
-    ensures ready { IsReadyFor (length (handlers_in script.now.items)) page.old.world → IsReadyFor (length (handlers_in script.now.items)) page.new.world }
+    requires targets { AreIn (world_of run.old) (presents (entries_of entries.now)) }
+    ensures says { Carries flow_of K.taken K.faults run.old run.new result
+        (run_block (handlers_of run.old) (presents (entries_of entries.now)) block.now (present_at (presents (entries_of entries.now)) subject) (world_of run.old)) }
+    ensures ready { StaysReady run.old run.new }
+    ensures held { IsHeld run.old run.new }
 {
     runs_take_nothing_back();
     for command in block.as_slice() {
-        match run_command(alloc, page, script, command, entries, subject, sink, steps) {
+        match run_command(run, command, entries, subject) {
             Ok(Flow::Next) => {}
             Ok(Flow::Thrown) => return Ok(Flow::Thrown),
             Err(fault) => return Err(fault),

@@ -1,45 +1,37 @@
 //! Calling a handler with the entries of its callback.
 
-ghost use Rattle.std.specs.Prelude.{length, option_map, Some};
-ghost use Rattle.script_model.specs.Scripts.{handlers_in};
+ghost use Rattle.std.specs.Prelude.{option_map, Some};
 ghost use Rattle.page_model.specs.Callbacks.{call, presents, run_handler};
-ghost use Rattle.page_laws.specs.Ready.{IsReadyFor};
 ghost use Rattle.trace_runs.specs.Flows.{goes_on};
-ghost use Rattle.trace_runs.specs.Runs.{Runs};
 ghost use Rattle.handlers.specs.Entries.{entries_of, AreHanded, AreIn};
+ghost use Rattle.handlers.specs.Runs.{handlers_of, world_of, Carries, IsHeld, StaysReady};
 
 use crate::commands::run_block;
 use crate::entries::{Entries, write_entries};
+use crate::run::Run;
 use element_tree::DocumentId;
 use event_tables::HandlerId;
-use page_state::Page;
-use script_syntax::Script;
-use std::alloc::Global;
 use std::sync::ledger::Ledger;
-use step_count::Steps;
 use text_io::Sink;
 use trace_runs::RunFault;
 
 // Runs the block of the handler with this number, if there is one. An exception ends only the block.
 fn run_numbered<K: Sink, L: Ledger>(
-    alloc: Global,
-    page: &mut Page,
-    script: &Script,
+    run: &mut Run<K, L>,
     number: u32,
     entries: &Entries,
-    sink: &mut K,
-    steps: &mut Steps<L>,
 ) -> Result<(), RunFault>
-    requires targets { AreIn page.old.world (presents (entries_of entries.now)) }
-    ensures says { Runs goes_on page.new.world result (K.taken sink.old) (K.taken sink.new) (K.faults sink.old) (K.faults sink.new)
-        (run_handler (handlers_in script.now.items) (entries_of entries.now) (Some number) page.old.world) }
-    ensures ready { IsReadyFor (length (handlers_in script.now.items)) page.old.world → IsReadyFor (length (handlers_in script.now.items)) page.new.world }
+    requires targets { AreIn (world_of run.old) (presents (entries_of entries.now)) }
+    ensures says { Carries goes_on K.taken K.faults run.old run.new result
+        (run_handler (handlers_of run.old) (entries_of entries.now) (Some number) (world_of run.old)) }
+    ensures ready { StaysReady run.old run.new }
+    ensures held { IsHeld run.old run.new }
 {
-    match script.handler(number) {
+    match run.script.handler(number) {
         None => Ok(()),
         Some(handler) => {
             let commands = &handler.commands;
-            match run_block(alloc, page, script, commands, entries, None, sink, steps) {
+            match run_block(run, commands, entries, None) {
                 Ok(_) => Ok(()),
                 Err(fault) => Err(fault),
             }
@@ -49,22 +41,19 @@ fn run_numbered<K: Sink, L: Ledger>(
 
 // Runs a handler, if there is one.
 fn run_named<K: Sink, L: Ledger>(
-    alloc: Global,
-    page: &mut Page,
-    script: &Script,
+    run: &mut Run<K, L>,
     handler: Option<HandlerId>,
     entries: &Entries,
-    sink: &mut K,
-    steps: &mut Steps<L>,
 ) -> Result<(), RunFault>
-    requires targets { AreIn page.old.world (presents (entries_of entries.now)) }
-    ensures says { Runs goes_on page.new.world result (K.taken sink.old) (K.taken sink.new) (K.faults sink.old) (K.faults sink.new)
-        (run_handler (handlers_in script.now.items) (entries_of entries.now) (option_map (λ it. it.0) handler) page.old.world) }
-    ensures ready { IsReadyFor (length (handlers_in script.now.items)) page.old.world → IsReadyFor (length (handlers_in script.now.items)) page.new.world }
+    requires targets { AreIn (world_of run.old) (presents (entries_of entries.now)) }
+    ensures says { Carries goes_on K.taken K.faults run.old run.new result
+        (run_handler (handlers_of run.old) (entries_of entries.now) (option_map (λ it. it.0) handler) (world_of run.old)) }
+    ensures ready { StaysReady run.old run.new }
+    ensures held { IsHeld run.old run.new }
 {
     match handler {
         None => Ok(()),
-        Some(HandlerId(number)) => run_numbered(alloc, page, script, number, entries, sink, steps),
+        Some(HandlerId(number)) => run_numbered(run, number, entries),
     }
 }
 
@@ -78,25 +67,22 @@ fn run_named<K: Sink, L: Ledger>(
 /// - `Memory`, and `WriteFault` only if the sink's fault count rose in this call; either may come before a limit. A prefix of
 ///   the lines was written, and of the page's world, which may be one inside of a step, only that it is ready is said.
 pub fn run_handler<K: Sink, L: Ledger>(
-    alloc: Global,
-    page: &mut Page,
-    script: &Script,
+    run: &mut Run<K, L>,
     document: DocumentId,
     handler: Option<HandlerId>,
     entries: &Entries,
-    sink: &mut K,
-    steps: &mut Steps<L>,
 ) -> Result<(), RunFault>
-    requires handed { AreHanded page.old.world (entries_of entries.now) }
-    ensures says { Runs goes_on page.new.world result (K.taken sink.old) (K.taken sink.new) (K.faults sink.old) (K.faults sink.new)
-        (call (handlers_in script.now.items) document.0 (option_map (λ it. it.0) handler) (entries_of entries.now) page.old.world) }
-    ensures ready { IsReadyFor (length (handlers_in script.now.items)) page.old.world → IsReadyFor (length (handlers_in script.now.items)) page.new.world }
+    requires handed { AreHanded (world_of run.old) (entries_of entries.now) }
+    ensures says { Carries goes_on K.taken K.faults run.old run.new result
+        (call (handlers_of run.old) document.0 (option_map (λ it. it.0) handler) (entries_of entries.now) (world_of run.old)) }
+    ensures ready { StaysReady run.old run.new }
+    ensures held { IsHeld run.old run.new }
 {
-    if !page.is_active(document) {
+    if !run.page.is_active(document) {
         return Ok(());
     }
-    match write_entries(alloc, page, entries, sink) {
-        Ok(()) => run_named(alloc, page, script, handler, entries, sink, steps),
+    match write_entries(run.alloc, run.page, entries, run.sink) {
+        Ok(()) => run_named(run, handler, entries),
         Err(fault) => Err(fault),
     }
 }

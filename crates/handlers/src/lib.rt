@@ -5,8 +5,10 @@
 mod commands;
 mod entries;
 mod handler;
+mod run;
 mod steps;
 
 pub use commands::run_command;
 pub use entries::Entries;
 pub use handler::run_handler;
+pub use run::Run;

@@ -1,27 +1,25 @@
 //! Applying a command that was begun, and writing the line of an error.
 
 ghost use Rattle.std.specs.Prelude.{◌≡◌, true, length};
-ghost use Rattle.script_model.specs.Scripts.{handlers_in};
 ghost use Rattle.script_syntax.specs.Allowed.{ActionAllowed};
 ghost use Rattle.script_syntax.specs.Seen.{action_of};
 ghost use Rattle.page_model.specs.Callbacks.{answered, handler_names, said_by};
 ghost use Rattle.page_model.specs.Commands.{does};
-ghost use Rattle.page_laws.specs.Ready.{IsReadyFor};
 ghost use Rattle.trace_runs.specs.Flows.{flow_of};
-ghost use Rattle.trace_runs.specs.Runs.{Runs};
 ghost use Rattle.trace_runs.specs.Writes.{Told};
 ghost use Rattle.page_state.specs.Answers.{IsHanded, lines_of};
 ghost use Rattle.page_names.specs.Things.{IsSubject};
 ghost use Rattle.handlers.specs.Answers.{Refused};
 ghost use Rattle.handlers.specs.Entries.{subject_of};
+ghost use Rattle.handlers.specs.Runs.{handlers_of, world_of, Carries, IsHeld, StaysReady};
 
 use crate::entries::{Subject, write_taken};
+use crate::run::Run;
 use page_laws::commands_read_the_target_alone;
 use page_state::{Effect, Page, PageFault};
-use script_syntax::{Action, Script};
+use script_syntax::Action;
 use std::alloc::Global;
 use std::sync::ledger::Ledger;
-use step_count::Steps;
 use text_io::{Sink, Version};
 use trace_runs::{Flow, RunFault, write_one, write_throw};
 
@@ -60,28 +58,28 @@ fn tell<K: Sink>(alloc: Global, page: &Page, effect: &Effect, sink: &mut K) -> R
 
 // Applies a command on a line that was begun, and writes its lines.
 pub(crate) fn apply<K: Sink, L: Ledger>(
-    alloc: Global,
-    page: &mut Page,
-    script: &Script,
+    run: &mut Run<K, L>,
     line: u32,
     action: &Action,
     subject: Subject,
-    sink: &mut K,
-    steps: &mut Steps<L>,
 ) -> Result<Flow, RunFault>
-    requires begun { page.old.begun ≡ true }
+    requires begun { run.old.page.now.begun ≡ true }
     requires allowed { ActionAllowed action.now }
-    requires subject { IsSubject (length page.old.world.tree.elements) subject.target }
-    ensures says { Runs flow_of page.new.world result (K.taken sink.old) (K.taken sink.new) (K.faults sink.old) (K.faults sink.new)
-        (answered line page.old.world said_by (does (handler_names (handlers_in script.now.items)) page.old.world (subject_of subject) (action_of action.now))) }
-    ensures ready { IsReadyFor (length (handlers_in script.now.items)) page.old.world → IsReadyFor (length (handlers_in script.now.items)) page.new.world }
+    requires subject { IsSubject (length (world_of run.old).tree.elements) subject.target }
+    ensures says { Carries flow_of K.taken K.faults run.old run.new result
+        (answered line (world_of run.old) said_by (does (handler_names (handlers_of run.old)) (world_of run.old) (subject_of subject) (action_of action.now))) }
+    ensures ready { StaysReady run.old run.new }
+    ensures held { IsHeld run.old run.new }
 {
     commands_read_the_target_alone();
-    match page.apply(script, action, subject.target, steps) {
-        Ok(effect) => match tell(alloc, page, &effect, sink) {
+    match run
+        .page
+        .apply(run.script, action, subject.target, run.steps)
+    {
+        Ok(effect) => match tell(run.alloc, run.page, &effect, run.sink) {
             Ok(()) => Ok(Flow::Next),
             Err(fault) => Err(fault),
         },
-        Err(fault) => refuse(alloc, line, fault, page.version(), sink),
+        Err(fault) => refuse(run.alloc, line, fault, run.page.version(), run.sink),
     }
 }

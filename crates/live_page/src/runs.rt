@@ -13,6 +13,7 @@ use crate::faults::LiveFault;
 use crate::further::goes_with;
 use crate::live::{LivePage, read};
 use frame_update::tick;
+use handlers::Run;
 use script_items::{play, play_items};
 use script_syntax::Script;
 use std::marker::Brand;
@@ -84,18 +85,24 @@ impl LivePage {
     {
         let mut steps = Steps::<L>::new(blank);
         if script.handlers() == 0 {
-            let items = script.items();
-            return play_items(
-                self.alloc,
-                &mut self.page,
-                &self.script,
-                items,
+            let mut run = Run {
+                alloc: self.alloc,
+                page: &mut self.page,
+                script: &self.script,
                 sink,
-                &mut steps,
-            );
+                steps: &mut steps,
+            };
+            return play_items(&mut run, script.items());
         }
         self.script = script;
-        play(self.alloc, &mut self.page, &self.script, sink, &mut steps)
+        let mut run = Run {
+            alloc: self.alloc,
+            page: &mut self.page,
+            script: &self.script,
+            sink,
+            steps: &mut steps,
+        };
+        play(&mut run)
     }
 
     /// Runs a tick at a time in milliseconds, at most 1,000,000,000,000, and writes its lines as they are produced: the due
@@ -133,14 +140,13 @@ impl LivePage {
             (caught (run_tick (self.old.handlers) 0 time (self.old.page.world))) }
     {
         let mut steps = Steps::<L>::new(blank);
-        tick(
-            self.alloc,
-            &mut self.page,
-            &self.script,
-            NO_LINE,
-            time,
+        let mut run = Run {
+            alloc: self.alloc,
+            page: &mut self.page,
+            script: &self.script,
             sink,
-            &mut steps,
-        )
+            steps: &mut steps,
+        };
+        tick(&mut run, NO_LINE, time)
     }
 }

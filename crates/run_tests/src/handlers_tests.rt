@@ -7,7 +7,7 @@ use crate::common::{failing, script_of};
 use crate::same::{same, same_bytes};
 use element_tree::DocumentId;
 use event_tables::HandlerId;
-use handlers::{Entries, run_command, run_handler};
+use handlers::{Entries, Run, run_command, run_handler};
 use page_state::Page;
 use script_syntax::{Command, Item, Script};
 use std::alloc::{AllocError, Global};
@@ -54,21 +54,24 @@ const MARGINS_TOLD: &str =
 const ROOM: usize = 512;
 
 // A command outside handlers, which may throw.
-fn run_outside<L: Ledger>(
-    alloc: Global,
-    page: &mut Page,
-    script: &Script,
-    command: &Command,
-    sink: &mut MemorySink,
-    steps: &mut Steps<L>,
-) -> Result<(), RunFault>
+fn run_outside<L: Ledger>(run: &mut Run<MemorySink, L>, command: &Command) -> Result<(), RunFault>
     requires { IsAllowed command.now }
 {
     let nothing = Entries::Nothing;
-    match run_command(alloc, page, script, command, &nothing, None, sink, steps) {
+    match run_command(run, command, &nothing, None) {
         Ok(_) => Ok(()),
         Err(fault) => Err(fault),
     }
+}
+
+// The first handler, called for a document with no entries.
+fn run_first<L: Ledger>(
+    run: &mut Run<MemorySink, L>,
+    document: DocumentId,
+) -> Result<(), RunFault> {
+    let handler = Some(HandlerId(0));
+    let nothing = Entries::Nothing;
+    run_handler(run, document, handler, &nothing)
 }
 
 // Each command but `tick`, and then the first handler for a document.
@@ -85,16 +88,19 @@ fn run_text<L: Ledger>(
     requires one_part { 0 < blank.parts }
 {
     let mut steps = Steps::<L>::new(blank);
+    let mut run = Run {
+        alloc,
+        page,
+        script,
+        sink,
+        steps: &mut steps,
+    };
     for item in script.items() {
         if let Item::Command(command) = item {
-            run_outside(alloc, page, script, command, sink, &mut steps)?;
+            run_outside(&mut run, command)?;
         }
     }
-    let handler = Some(HandlerId(0));
-    let nothing = Entries::Nothing;
-    run_handler(
-        alloc, page, script, document, handler, &nothing, sink, &mut steps,
-    )
+    run_first(&mut run, document)
 }
 
 // Runs a script on a page of its own. The page goes as that of a report, where it is proved once that it can be dropped.

@@ -6,6 +6,8 @@ mod common;
 #[cfg(test)]
 mod handlers_tests;
 #[cfg(test)]
+mod line_sink_tests;
+#[cfg(test)]
 mod live_page_tests;
 #[cfg(test)]
 mod loop_lint_tests;

@@ -1,3 +1,4 @@
 pub mod Playing
 pub mod Stopped
 pub mod Stopping
+mod Ready

@@ -2,6 +2,7 @@
 #![tactic(auto)]
 
 mod items;
+pub mod lent;
 mod stops;
 
 pub use items::{play, play_items, run_item};

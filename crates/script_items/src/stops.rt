@@ -1,21 +1,18 @@
 //! Runs that stop at the end of one of their ticks.
 
 ghost use Rattle.std.specs.Prelude.{◌≡◌, ◌-◌, ◌≤◌, IfOk};
-ghost use Rattle.script_model.specs.Scripts.{handlers_in};
 ghost use Rattle.script_syntax.specs.Seen.{item_of};
 ghost use Rattle.page_model.specs.Outcome.{run_item};
 ghost use Rattle.page_model.specs.Runs.{for_each};
 ghost use Rattle.trace_runs.specs.Flows.{goes_on};
-ghost use Rattle.trace_runs.specs.Runs.{Runs};
+ghost use Rattle.handlers.specs.Runs.{handlers_of, world_of, Carries, IsHeld};
 ghost use Rattle.frame_update.specs.Ready.{IsReady};
 ghost use Rattle.script_items.specs.Stops.{tick_count, ticks_in, to_tick};
 
 use crate::items::run_item;
-use page_state::Page;
-use script_syntax::{Item, Script};
-use std::alloc::Global;
+use handlers::Run;
+use script_syntax::Item;
 use std::sync::ledger::Ledger;
-use step_count::Steps;
 use text_io::Sink;
 use trace_runs::RunFault;
 
@@ -34,26 +31,21 @@ fn ticks_in(item: &Item) -> u64
 /// produced. Returns the number of ticks that are lacking: 0 if that tick ended, even if it threw, otherwise the number of
 /// ticks that the script has too few. The page is ready for further items of the script, whatever is returned. The errors are
 /// those of `play`.
-pub fn play_to_tick<K: Sink, L: Ledger>(
-    alloc: Global,
-    page: &mut Page,
-    script: &Script,
-    number: u64,
-    sink: &mut K,
-    steps: &mut Steps<L>,
-) -> Result<u64, RunFault>
-    requires { IsReady script.now.items page.old.world }
-    ensures says { Runs goes_on page.new.world result (K.taken sink.old) (K.taken sink.new) (K.faults sink.old) (K.faults sink.new)
-        (for_each (run_item (handlers_in script.now.items)) (to_tick number script.now.items) page.old.world) }
-    ensures lacking { IfOk result (λ lacking. lacking ≡ number - tick_count script.now.items) }
-    ensures ready { IsReady script.now.items page.new.world }
+pub fn play_to_tick<K: Sink, L: Ledger>(run: &mut Run<K, L>, number: u64) -> Result<u64, RunFault>
+    requires { IsReady run.old.script.now.items (world_of run.old) }
+    ensures says { Carries goes_on K.taken K.faults run.old run.new result
+        (for_each (run_item (handlers_of run.old)) (to_tick number run.old.script.now.items) (world_of run.old)) }
+    ensures lacking { IfOk result (λ lacking. lacking ≡ number - tick_count run.old.script.now.items) }
+    ensures ready { IsReady run.old.script.now.items (world_of run.new) }
+    ensures held { IsHeld run.old run.new }
 {
+    let script = run.script;
     let mut left = number;
     for item in script.items() {
         if left == 0 {
             return Ok(0);
         }
-        run_item(alloc, page, script, item, sink, steps)?;
+        run_item(run, item)?;
         left -= ticks_in(item);
     }
     Ok(left)

@@ -20,7 +20,7 @@ use run_replies::{
     Job, Status, meet_limit, refuse_at, status_of, write_certificates, write_check, write_limit,
     write_script,
 };
-use script_items::play;
+use script_items::lent::play;
 use script_source::ScriptText;
 use script_syntax::{ParseFault, Script};
 use std::alloc::Global;

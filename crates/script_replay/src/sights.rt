@@ -22,7 +22,7 @@ use hit_test::hits;
 use page_state::{Label, Page};
 use px_units::Point;
 use run_replies::{Sight, Status, status_of, write_limit, write_lines};
-use script_items::play_to_tick;
+use script_items::lent::play_to_tick;
 use script_syntax::Script;
 use std::alloc::{AllocError, Global};
 use std::sync::ledger::Ledger;

@@ -9,7 +9,7 @@ ghost use Rattle.script_replay.specs.ScriptReplies.{script_reply};
 use crate::report::Report;
 use page_state::Page;
 use run_replies::{Job, Status, status_of, summarize_to_limit, write_summary};
-use script_items::play;
+use script_items::lent::play;
 use script_syntax::Script;
 use std::alloc::Global;
 use std::sync::ledger::Ledger;

@@ -14,7 +14,7 @@ ghost use Rattle.stream_replay.specs.StreamPages.{begins, seen_page, seen_runnin
 use crate::named::write_named;
 use page_state::Page;
 use run_replies::write_limit;
-use script_items::run_item;
+use script_items::lent::run_item;
 use script_syntax::{Item, Script};
 use std::alloc::Global;
 use std::sync::ledger::Ledger;

@@ -1,5 +1,5 @@
 use Rattle.std.proofs.Common.{◌≡◌, ◌-◌}
-use Rattle.frame_update.specs.Goes.{loans_of}
+use Rattle.handlers.specs.Runs.{loans_of}
 use Rattle.frame_update.proofs.Broadcasts.{IsBroadcasting}
 use Rattle.frame_update.proofs.rounds.broadcast.Given as goal
 

@@ -1,4 +1,4 @@
-use Rattle.std.proofs.Common.{◌∙◌, ap, length, subst, sym}
+use Rattle.std.proofs.Common.{◌∙◌, ap, length, rules, subst, sym}
 use Rattle.script_model.specs.Scripts.{handlers_in}
 use Rattle.page_model.specs.Outcome.{run_item}
 use Rattle.page_model.specs.Runs.{for_each}
@@ -23,7 +23,9 @@ play-requires g c =
 pub returns-clause-says : goal.returns-clause-says
 returns-clause-says g c =
     let given = handlers_in c.args.script.items in
+    let says =
     run_same
     (further_said c.args.script.items (handlers_in c.self.inside.script.items) c.self.inside.page.world (λ none. c.if-handlers-eq0.false (c.handlers.ensures ∙ none))
     ∙ ap (λ (live : LiveView). for_each (run_item (handlers_after (live.handlers) given)) c.args.script.items (live.page.world)) c.self.view_is)
-    c.play.ensures.says
+    c.play.ensures.says in
+    search (rules, says)
