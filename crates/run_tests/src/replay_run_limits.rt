@@ -1,11 +1,15 @@
 //! Each limit at its number of `docs/SCRIPT.md`, and one past it.
 
+use crate::common::failing;
 use crate::replay_run_scripts::{NUMBERED, Numbered, OBSERVING, Observing};
 use crate::replay_run_tests::{WHOLE, expect};
+use crate::same::{same, same_bytes};
 use replay_run::Status;
+use run_replies::meet_limit;
 use std::alloc::{AllocError, Global};
 use std::process::Abort;
 use std::test::Fail;
+use text_io::{LimitKind, MemorySink};
 
 // What a script that goes on writes, which is its last command too.
 const ON: &str = "say on\n";
@@ -285,4 +289,79 @@ fn see_script_too_long(rt: &impl Abort, alloc: Global) -> Result<(), Fail> {
 fn scripts_have_bytes_up_to_the_limit(rt: HostRuntime) -> Result<(), Fail> {
     see_longest_script(&rt, rt.alloc())?;
     see_script_too_long(&rt, rt.alloc())
+}
+
+/// A limit and the line on which it is met; the line that is written, with the limit's number of the first version; and which write fails.
+type ToldRow = (LimitKind, u32, &'static str, Option<u64>, Status);
+
+const TOLD: [ToldRow; 8] = [
+    (
+        LimitKind::Script,
+        1,
+        "limit script 1 16777216\n",
+        None,
+        Status::Limit,
+    ),
+    (
+        LimitKind::Line,
+        2,
+        "limit line 2 4096\n",
+        None,
+        Status::Limit,
+    ),
+    (
+        LimitKind::Nesting,
+        18,
+        "limit nesting 18 16\n",
+        None,
+        Status::Limit,
+    ),
+    (
+        LimitKind::Recorded,
+        3,
+        "limit recorded 3 67108864\n",
+        None,
+        Status::Limit,
+    ),
+    (
+        LimitKind::Pages,
+        4_294_967_295,
+        "limit pages 4294967295 8\n",
+        None,
+        Status::Limit,
+    ),
+    (
+        LimitKind::Commands,
+        7,
+        "limit commands 7 1000000\n",
+        None,
+        Status::Limit,
+    ),
+    (LimitKind::Script, 1, "", Some(0), Status::WriteFault),
+    (
+        LimitKind::Script,
+        1,
+        "limit sc",
+        Some(1),
+        Status::WriteFault,
+    ),
+];
+
+fn see_told(rt: &impl Abort, alloc: Global, row: ToldRow) -> Result<(), Fail> {
+    let (kind, line, text, failing_write, status) = row;
+    let writes = failing(alloc, failing_write)?;
+    let mut sink = MemorySink::new(alloc, 64, 8, writes)?;
+    let found = meet_limit(alloc, kind, line, &mut sink);
+    same(rt, &found, &status, text);
+    same_bytes(rt, sink.taken(), text.as_bytes(), text);
+    Ok(())
+}
+
+// A limit of the source is told without a run.
+#[test]
+fn a_limit_is_told_with_its_number(rt: HostRuntime) -> Result<(), Fail> {
+    for row in TOLD {
+        see_told(&rt, rt.alloc(), row)?;
+    }
+    Ok(())
 }
