@@ -1,5 +1,5 @@
 -- A source that was read, up to what is looked at.
-use Rattle.std.proofs.Common.{◌≡◌, ◌∙◌, ap, refl, subst, sym, ℕ, List, Option}
+use Rattle.std.proofs.Common.{◌≡◌, ◌∙◌, ◌⊎◌, ap, drop, inl, inr, refl, subst, sym, ℕ, List, Option}
 use Rattle.std.specs.Prelude.{Some, None, Err, IfSome}
 use Rattle.script_model.specs.Reading.{Reading, Refusal, reading}
 use Rattle.page_model.specs.Outcome.{outcome_read}
@@ -52,6 +52,13 @@ pub generated_left : (words : Option Words) (job : Job) (number : ℕ) → words
     → IfSome words (λ asks. IfSome left (λ text. IsTaken status (looked_at asks) text left))
 generated_left words job number are status left =
     subst (λ (it : Option Words). IfSome it (λ asks. IfSome left (λ text. IsTaken status (looked_at asks) text left))) (sym are) (unlooked status left)
+
+-- where memory runs out, by what the words ask for
+
+pub asked_memory : {A : Type 0} (asked : Option Words) (asks : Words) (left rest : Option (List ℕ)) → asked ≡ Some asks → A ⊎ IfSome left (λ text. rest ≡ Some (drop (looked_at asks) text))
+    → A ⊎ IfSome asked (λ it. IfSome left (λ text. rest ≡ Some (drop (looked_at it) text)))
+asked_memory asked asks left rest is (inl same) = inl same
+asked_memory asked asks left rest is (inr read) = inr (subst (λ (words : Option Words). IfSome words (λ it. IfSome left (λ text. rest ≡ Some (drop (looked_at it) text)))) (sym is) read)
 
 -- a text that isn't a script, by what the words ask for
 

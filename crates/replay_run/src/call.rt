@@ -1,6 +1,6 @@
 //! The top-level call.
 
-ghost use Rattle.std.specs.Prelude.{◌≡◌, ◌↔◌, ◌<◌, ◌&&◌, false, None, Some, Err, is_some, map, string_bytes, IfSome};
+ghost use Rattle.std.specs.Prelude.{◌≡◌, ◌⊎◌, ◌↔◌, ◌<◌, ◌&&◌, false, None, Some, Err, drop, is_some, map, string_bytes, IfSome};
 ghost use Rattle.text_io.specs.Streams.{Rose};
 ghost use Rattle.script_model.specs.Generator.{generated};
 ghost use Rattle.script_model.specs.Reading.{Refusal, reading};
@@ -37,6 +37,7 @@ fn perform_on_source<S: Source, K: Sink, L: Ledger>(
     ensures ends { IfSome (S.left source.old) (λ text.
         Ends result.status (read_reply job (reading text)) (K.taken sink.old) (K.taken sink.new) (K.faults sink.old) (K.faults sink.new)) }
     ensures read { IfSome (S.left source.old) (λ text. IsTaken result.status 16777217 text (S.left source.new)) }
+    ensures out_of_memory { result.status ≡ Status.NoMemory → (sink.new ≡ sink.old) ⊎ IfSome (S.left source.old) (λ text. S.left source.new ≡ Some (drop 16777217 text)) }
     ensures read_fault { result.status ≡ Status.ReadFault → Rose (S.faults source.old) (S.faults source.new) × (sink.new ≡ sink.old) }
     ensures write_fault { result.status ≡ Status.WriteFault → Rose (K.faults sink.old) (K.faults sink.new) }
     ensures unfailed_read { (result.status ≡ Status.ReadFault → ⊥) → S.faults source.new ≡ S.faults source.old }
@@ -131,7 +132,8 @@ fn perform_on_number<K: Sink, L: Ledger>(
 ///   many were consumed. After `NoMemory` and `ReadFault` no more than these were.
 /// - With `--pages` and one of these statuses, each page's lines in the output are the trace of its script alone, unless the
 ///   stream is rejected.
-/// - `NoMemory` if an allocation fails: the first lines of the text were written, each of them whole.
+/// - `NoMemory` if an allocation fails: the first lines of the text were written, each of them whole. If there are any, the source was
+///   read as after `Done`.
 /// - `ReadFault` and `WriteFault`: only if that fault count rose in this call; with any other status that count is unchanged. After
 ///   `WriteFault` a prefix of the text was written: whole lines, and at most a part of one.
 /// - `Usage`: exactly for any other words; nothing is read, written or allocated.
@@ -150,6 +152,8 @@ pub fn run<S: Source, K: Sink, L: Ledger>(
     // With several pages, each is as if its script ran alone.
     ensures alone { asked (map string_bytes words.now) ≡ Some Words.Pages → IfSome (S.left source.old) (λ text. IsolatesPages result.status text) }
     ensures read { IfSome (asked (map string_bytes words.now)) (λ asks. IfSome (S.left source.old) (λ text. IsTaken result.status (looked_at asks) text (S.left source.new))) }
+    // Nothing is written before the source is read.
+    ensures out_of_memory { result.status ≡ Status.NoMemory → (sink.new ≡ sink.old) ⊎ IfSome (asked (map string_bytes words.now)) (λ asks. IfSome (S.left source.old) (λ text. S.left source.new ≡ Some (drop (looked_at asks) text))) }
     ensures unread { IfSome (asked (map string_bytes words.now)) (λ asks. looked_at asks ≡ 0 → source.new ≡ source.old) }
     // The causes, even if neither tells its bytes.
     ensures read_fault { result.status ≡ Status.ReadFault → Rose (S.faults source.old) (S.faults source.new) × (sink.new ≡ sink.old) }
@@ -199,6 +203,8 @@ pub fn run_uncounted<S: Source, K: Sink, L: Ledger>(
     // With several pages, each is as if its script ran alone.
     ensures alone { asked (map string_bytes words.now) ≡ Some Words.Pages → IfSome (S.left source.old) (λ text. IsolatesPages result.status text) }
     ensures read { IfSome (asked (map string_bytes words.now)) (λ asks. IfSome (S.left source.old) (λ text. IsTaken result.status (looked_at asks) text (S.left source.new))) }
+    // Nothing is written before the source is read.
+    ensures out_of_memory { result.status ≡ Status.NoMemory → (sink.new ≡ sink.old) ⊎ IfSome (asked (map string_bytes words.now)) (λ asks. IfSome (S.left source.old) (λ text. S.left source.new ≡ Some (drop (looked_at asks) text))) }
     ensures unread { IfSome (asked (map string_bytes words.now)) (λ asks. looked_at asks ≡ 0 → source.new ≡ source.old) }
     // The causes, even if neither tells its bytes.
     ensures read_fault { result.status ≡ Status.ReadFault → Rose (S.faults source.old) (S.faults source.new) × (sink.new ≡ sink.old) }

@@ -1,6 +1,6 @@
 //! Judging recorded traces by the traces of their scripts.
 
-ghost use Rattle.std.specs.Prelude.{◌≡◌, Err, IfOk, IfSome};
+ghost use Rattle.std.specs.Prelude.{◌≡◌, ◌⊎◌, drop, Err, Some, IfOk, IfSome};
 ghost use Rattle.text_io.specs.Streams.{Rose};
 ghost use Rattle.script_model.specs.Reading.{Refusal, reading};
 ghost use Rattle.page_model.specs.Outcome.{trace};
@@ -93,6 +93,8 @@ pub fn judge_source<S: Source, K: Sink, L: Ledger>(
     ensures ends { IfSome (S.left source.old) (λ text.
         Ends result (judge_reply text) (K.taken sink.old) (K.taken sink.new) (K.faults sink.old) (K.faults sink.new)) }
     ensures read { IfSome (S.left source.old) (λ text. IsTaken result 67108865 text (S.left source.new)) }
+    // Nothing is written before the source is read.
+    ensures out_of_memory { result ≡ Status.NoMemory → (sink.new ≡ sink.old) ⊎ IfSome (S.left source.old) (λ text. S.left source.new ≡ Some (drop 67108865 text)) }
     ensures read_fault { result ≡ Status.ReadFault → Rose (S.faults source.old) (S.faults source.new) × (sink.new ≡ sink.old) }
     ensures write_fault { result ≡ Status.WriteFault → Rose (K.faults sink.old) (K.faults sink.new) }
     ensures unfailed_read { (result ≡ Status.ReadFault → ⊥) → S.faults source.new ≡ S.faults source.old }

@@ -1,7 +1,7 @@
 //! Running several pages of one stream side by side.
 
 ghost use Rattle.std.specs.Io.KnownBytes.{Appends};
-ghost use Rattle.std.specs.Prelude.{ℕ, List, Option, ◌≡◌, ◌≤◌, ◌++◌, ◌∷◌, [], length, map, slice_range, take, ◌<◌, true, Ok, Err, IfOk, IfSome, OnOk, OnErr};
+ghost use Rattle.std.specs.Prelude.{ℕ, List, Option, ◌≡◌, ◌≤◌, ◌++◌, ◌∷◌, ◌⊎◌, [], drop, length, map, slice_range, take, ◌<◌, true, Some, Ok, Err, IfOk, IfSome, OnOk, OnErr};
 ghost use Rattle.std.specs.List.{All, list_any};
 ghost use Rattle.text_io.specs.Streams.{Rose};
 ghost use Rattle.script_model.specs.Reading.{reading};
@@ -338,6 +338,8 @@ pub fn run_pages<S: Source, K: Sink, L: Ledger>(
         Ends result (pages_reply text) (K.taken sink.old) (K.taken sink.new) (K.faults sink.old) (K.faults sink.new)) }
     ensures alone { IfSome (S.left source.old) (λ text. IsolatesPages result text) }
     ensures read { IfSome (S.left source.old) (λ text. IsTaken result 16777217 text (S.left source.new)) }
+    // Nothing is written before the source is read.
+    ensures out_of_memory { result ≡ Status.NoMemory → (sink.new ≡ sink.old) ⊎ IfSome (S.left source.old) (λ text. S.left source.new ≡ Some (drop 16777217 text)) }
     ensures read_fault { result ≡ Status.ReadFault → Rose (S.faults source.old) (S.faults source.new) × (sink.new ≡ sink.old) }
     ensures write_fault { result ≡ Status.WriteFault → Rose (K.faults sink.old) (K.faults sink.new) }
     ensures unfailed_read { (result ≡ Status.ReadFault → ⊥) → S.faults source.new ≡ S.faults source.old }

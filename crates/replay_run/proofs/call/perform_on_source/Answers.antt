@@ -1,3 +1,5 @@
+use Rattle.std.proofs.Common.{inl, inr, refl}
+use Rattle.run_replies.specs.declared.status.Status.TheVariants.{WriteFault}
 use Rattle.page_state.specs.Views.{PageView}
 use Rattle.run_replies.proofs.Telling.{not_read_fault, not_usage, unfailed, write_fault_rose}
 use Rattle.run_replies.proofs.Taking.{failed_taken}
@@ -37,3 +39,9 @@ returns-in-Ok-clause-ready g c = ready_some _ c.perform_on_text.result.page c.pe
 
 pub returns-in-Ok-clause-refused_steps : goal.returns-in-Ok-clause-refused_steps
 returns-in-Ok-clause-refused_steps g c = reads_refused _ _ _ _ _ c.in-Ok.ensures.read c.perform_on_text.ensures.refused_steps
+
+pub returns-in-Ok-clause-out_of_memory : goal.returns-in-Ok-clause-out_of_memory
+returns-in-Ok-clause-out_of_memory g c = λ is. inr (reads_taken WriteFault _ _ _ c.in-Ok.ensures.read)
+
+pub returns-in-Err-Memory-clause-out_of_memory : goal.returns-in-Err-Memory-clause-out_of_memory
+returns-in-Err-Memory-clause-out_of_memory g c = λ is. inl refl

@@ -1,3 +1,5 @@
+use Rattle.std.proofs.Common.{inl, inr, refl}
+use Rattle.run_replies.specs.declared.status.Status.TheVariants.{WriteFault}
 use Rattle.run_replies.proofs.Taking.{failed_taken, taken_past}
 use Rattle.run_replies.proofs.Telling.{unfailed}
 use Rattle.replay_run.proofs.Judged.{judged_refused, ends_past, ends_whole, taken_whole}
@@ -37,3 +39,13 @@ returns-in-Err-TooLong-clause-unfailed_write g c = unfailed c.meet_limit.result 
 
 pub returns-in-Ok-clause-refused_steps : goal.returns-in-Ok-clause-refused_steps
 returns-in-Ok-clause-refused_steps g c = judged_refused _ _ _ _ _ c.in-Ok.ensures.divided c.judge_recorded.ensures.refused_steps
+
+pub returns-in-Ok-clause-out_of_memory : goal.returns-in-Ok-clause-out_of_memory
+returns-in-Ok-clause-out_of_memory g c = λ is. inr (taken_whole WriteFault _ _ c.in-Ok.ensures.end)
+
+pub returns-in-Err-TooLong-clause-out_of_memory : goal.returns-in-Err-TooLong-clause-out_of_memory
+returns-in-Err-TooLong-clause-out_of_memory g c =
+    let cause = rw c.in-Err-TooLong.field-0-is at c.in-Err-TooLong.ensures.fault in λ is. inr (taken_past WriteFault 67108864 c.in-Err-TooLong.feeds _ _ cause.2)
+
+pub returns-in-Err-clause-out_of_memory : goal.returns-in-Err-clause-out_of_memory
+returns-in-Err-clause-out_of_memory g c = λ is. inl refl

@@ -1,8 +1,9 @@
-use Rattle.std.proofs.Common.{◌≤◌, arith, length, subst, ℕ, List}
+use Rattle.std.proofs.Common.{◌≤◌, arith, inl, inr, length, refl, subst, ℕ, List}
 use Rattle.run_replies.proofs.Taking.{failed_taken, taken_past}
 use Rattle.run_replies.proofs.Telling.{unfailed}
 use Rattle.stream_replay.specs.StreamReplies.{IsolatesPages}
 use Rattle.stream_replay.proofs.PagesAsked.{pages_end_past, pages_taken, alone_end, past_alone}
+use Rattle.run_replies.specs.declared.status.Status.TheVariants.{WriteFault}
 use Rattle.stream_replay.proofs.side_by_side.run_pages.Goals as goal
 
 pub returns-in-Ok-clause-read : goal.returns-in-Ok-clause-read
@@ -43,3 +44,15 @@ returns-in-Ok-clause-alone g c =
 pub returns-in-Err-TooLong-clause-alone : goal.returns-in-Err-TooLong-clause-alone
 returns-in-Err-TooLong-clause-alone g c =
     let cause = rw c.in-Err-TooLong.field-0-is at c.in-Err-TooLong.ensures.fault in past_alone c.meet_limit.result _ _ c.in-Err-TooLong.feeds cause.2
+
+pub returns-in-Ok-clause-out_of_memory : goal.returns-in-Ok-clause-out_of_memory
+returns-in-Ok-clause-out_of_memory g c =
+    let fits : length c.in-Ok.bytes.items ≤ 16777216 = omega (arith, c.in-Ok.bytes.ok, c.in-Ok.ensures.within) in
+    λ is. inr (pages_taken WriteFault _ _ c.in-Ok.bytes.items c.in-Ok.ensures.all c.in-Ok.ensures.end fits)
+
+pub returns-in-Err-TooLong-clause-out_of_memory : goal.returns-in-Err-TooLong-clause-out_of_memory
+returns-in-Err-TooLong-clause-out_of_memory g c =
+    let cause = rw c.in-Err-TooLong.field-0-is at c.in-Err-TooLong.ensures.fault in λ is. inr (taken_past WriteFault 16777216 c.in-Err-TooLong.feeds _ _ cause.2)
+
+pub returns-in-Err-clause-out_of_memory : goal.returns-in-Err-clause-out_of_memory
+returns-in-Err-clause-out_of_memory g c = λ is. inl refl
