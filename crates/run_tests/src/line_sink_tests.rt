@@ -1,5 +1,7 @@
 //! The lines of a trace as values, collected by a sink. The texts are those that an independent program writes.
 
+ghost use Rattle.std.specs.Prelude.{◌<◌};
+
 use crate::same::same;
 use live_page::LivePage;
 use std::alloc::Global;
@@ -15,6 +17,9 @@ const CARD: &[u8] =
 
 const TRACE: &[u8] =
     b"tick 0\nresize sizes card rect 0 0 800 120 border 800 120\nround top 1\nevent error @top ResizeObserver loop completed with undelivered notifications.\n";
+
+// No piece is longer; the trace is shorter.
+const LONGEST: usize = 160;
 
 // Whether these are the lines of the trace.
 fn is_trace(lines: &[TraceLine]) -> bool {
@@ -46,7 +51,9 @@ fn a_tick_gives_lines_as_values(rt: HostRuntime) -> Result<(), Fail> {
 }
 
 // Writes a trace in pieces of this length.
-fn in_pieces(rt: &impl Abort, alloc: Global, size: usize) {
+fn in_pieces(rt: &impl Abort, alloc: Global, size: usize)
+    requires { 0 < size }
+{
     let mut sink = LineSink::new(alloc);
     for piece in TRACE.chunks(size) {
         assert!(rt; write_all(&mut sink, piece).is_ok());
@@ -56,7 +63,7 @@ fn in_pieces(rt: &impl Abort, alloc: Global, size: usize) {
 
 #[test]
 fn pieces_of_every_length_give_the_same_lines(rt: HostRuntime) -> Result<(), Fail> {
-    for size in 1..TRACE.len() + 1 {
+    for size in 1..LONGEST {
         in_pieces(&rt, rt.alloc(), size);
     }
     Ok(())

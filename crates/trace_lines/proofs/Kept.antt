@@ -90,9 +90,6 @@ pub added_fit : {F : Type 0} (old new : List line.TraceLine) (more : line.TraceL
 added_fit old new more (Ok value) is added same fit = subst (λ lines. All IsLine (map seen_line lines)) (sym added) (more_fit old more is fit)
 added_fit old new more (Err fault) is added same fit = subst (λ lines. All IsLine (map seen_line lines)) (sym same) fit
 
-pub more_unfed : (rest more : List ℕ) → IsUnfed rest → IsUnfed more → IsUnfed (rest ++ more)
-more_unfed rest more left unfed = list_any-append (λ byte. byte == 10) rest more ∙ ap (λ b. b || list_any (λ byte. byte == 10) more) left ∙ unfed
-
 -- the first line of a piece
 pub first_taken : (piece : List ℕ) → take (length (first_line piece)) piece ≡ first_line piece
 first_taken piece = ap (take (length (first_line piece))) (sym (line_splits piece)) ∙ take-append_seam (first_line piece) (behind_line piece)

@@ -1,4 +1,4 @@
-use Rattle.std.proofs.Common.{◌∙◌, ap, sym, ◌++◌, ◌<◌, ◌≤◌, length, subst, take}
+use Rattle.std.proofs.Common.{◌∙◌, ap, sym, ◌++◌, ◌<◌, ◌≤◌, length, take}
 use Rattle.trace_lines.specs.Kept.{text_of}
 use Rattle.trace_lines.proofs.Kept.{first_some, first_taken, first_within}
 use Rattle.trace_lines.proofs.sink.LineSinkSink.write.Goals as goal
