@@ -1,6 +1,7 @@
 //! Replays a script from standard input and writes its trace to standard output.
 #![tactic(auto)]
 
+mod gathering;
 mod starting;
 
 use starting::start;
@@ -19,7 +20,7 @@ fn arguments(rt: &HostRuntime) -> io::Result<Vec<String>> {
 
 fn main(rt: HostRuntime) -> ExitCode {
     let mut source = StdSource::new(rt.stdin());
-    let mut sink = StdSink::new(rt.stdout());
-    let status = start(rt.alloc(), arguments(&rt), &mut source, &mut sink);
-    ExitCode::from(status.code())
+    let sink = StdSink::new(rt.stdout());
+    let ended = start(rt.alloc(), arguments(&rt), &mut source, sink);
+    ExitCode::from(ended.status.code())
 }

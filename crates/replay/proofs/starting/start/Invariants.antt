@@ -1,5 +1,5 @@
 use Rattle.replay.proofs.starting.start.Given as goal
 
--- the ledger is that of the blank
-abbrev pub ghosts-run_uncounted : goal.ghosts-run_uncounted
-ghosts-run_uncounted g a = record { name = a.blank.name; parts = a.blank.parts }
+-- what the sink has taken before
+abbrev pub ghosts-run_gathering : goal.ghosts-run_gathering
+ghosts-run_gathering g a = record { taken = g.K.Sink.taken a.sink }
