@@ -1,7 +1,7 @@
 //! A sink that gathers bytes before it writes them, so that the system is called once for many lines.
 
-ghost use Rattle.std.specs.Prelude.{◌≡◌, ◌<◌, ◌≤◌, ℕ, List, [], ◌+◌, ◌++◌, length, vec_len, Option, None, if◌then◌else◌, IsOk, IfOk, OnOk, OnErr};
-ghost use Rattle.std.specs.Io.KnownBytes.{Appends, Keeps, WriteAppends, append_known};
+ghost use Rattle.std.specs.Prelude.{◌≡◌, ◌<◌, ◌≤◌, ℕ, List, [], ◌+◌, ◌++◌, vec_len, Option, None, if◌then◌else◌, IsOk, OnOk, OnErr};
+ghost use Rattle.std.specs.Io.KnownBytes.{Appends, Keeps, append_known};
 ghost use Rattle.text_io.specs.Streams.{Rose};
 ghost use Rattle.trace_runs.specs.Writes.{AppendsPart};
 ghost use Rattle.replay.specs.Gathered.{BeginsWith};
