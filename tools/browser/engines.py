@@ -602,8 +602,12 @@ class SteppedFirefox(Stepped, Firefox):
         self.open(self.server.offer(STEPPED_PAGE % self.parts['page']))
         self.server.answer()
         if not self.update('%s && %s' % (HAS_SIZE % tuple(size), HAS_RATIO % ratio)):
-            self.resize(*size)
-            self.scale(ratio)
+            # The ratio first: at the ratio of the script before, the window may not have this size.
+            self.sized = tuple(size)
+            Firefox.scale(self, ratio)
+            self.size(*size)
+            self.await_ratio(ratio)
+            self.await_size()
         self.sized = tuple(size)
         for _ in range(2):
             self.update()
