@@ -20,7 +20,9 @@ WIDEST = 10000000     # the most pixels of a viewport's side
 LONGEST = 180         # the most seconds for an answer of a running browser
 STARTING = 60         # the most seconds for its start
 LEAST_RATIO = 0.5     # the least ratio of Chromium's screen
-RATIO_SECONDS = 3     # the most seconds for a new ratio, which a browser may not support
+SIXTIETHS = 60        # Firefox's lengths are in sixtieths of a pixel
+UPDATES = 8           # how often an update is asked for at once; then with a pause each, for as long as for an answer
+PAUSE = 0.05
 NO_RATIO = "a ratio that changes is only shown by 'tools/browser/run' in chromium and firefox-stepped"
 NO_FRAME = ("a viewport that changes, with an implicit root and frames or scroll margins, is only shown by 'tools/browser/run' in chromium "
             'and firefox-stepped')
@@ -229,26 +231,28 @@ class Stepped:
     def tick(self):
         """Runs an update of the page, and returns what the script wants next."""
         # A frame that the browser uses to finish earlier work isn't an update of the page: ask again until the page has had one.
-        for _ in range(8):
+        asked, end = 0, time.time() + LONGEST
+        while time.time() < end:
             wants = self.updated()
             if wants:
                 return wants
-        raise NotShown('an update that the browser skips')
+            asked += 1
+            time.sleep(0 if asked < UPDATES else PAUSE)
+        raise NoBrowser('the browser had no update in %d seconds' % LONGEST)
 
     def updated(self):
         """What the script wants after an update, or None if the page had none."""
         self.update()
         return self.value('observersNow.after()', wait=True)
 
-    def await_value(self, expression, called, seconds=LONGEST):
-        end = time.time() + seconds
+    def await_value(self, expression, called):
+        end = time.time() + LONGEST
         while not self.value(expression):
             if time.time() > end:
-                raise NotShown(called)
+                raise NoBrowser('the browser had no %s in %d seconds' % (called, LONGEST))
 
     def await_ratio(self, ratio):
-        self.await_value(HAS_RATIO % ratio, 'a ratio of %g%%, which this browser rounds' % (100 * ratio),
-                         RATIO_SECONDS)
+        self.await_value(HAS_RATIO % ratio, 'ratio of %g%%' % (100 * ratio))
 
     def trace(self, text):
         """The lines of the trace; raises NotShown if the page can't show all of the script."""
@@ -547,7 +551,10 @@ class Firefox(Live):
         self.in_chrome(FIREFOX_SIZE, width, height)
 
     def scale(self, ratio):
+        """A device pixel is a whole number of sixtieths of a pixel here: any other ratio is rounded."""
         if ratio != self.ratio:
+            if abs(SIXTIETHS / ratio - round(SIXTIETHS / ratio)) > 1e-6 or ratio > SIXTIETHS:
+                raise NotShown('a ratio of %g%%, which this browser rounds' % (100 * ratio))
             self.in_chrome(FIREFOX_RATIO, ratio)
             self.ratio = ratio
 
@@ -588,15 +595,19 @@ class SteppedFirefox(Stepped, Firefox):
         self.await_size()
 
     def await_size(self):
-        self.await_value(HAS_SIZE % self.sized, 'a window of %d by %d' % self.sized)
+        self.await_value(HAS_SIZE % self.sized, 'window of %d by %d' % self.sized)
 
     def blank(self, size, ratio):
         """Opens a new page, and waits for its first updates."""
         self.open(self.server.offer(STEPPED_PAGE % self.parts['page']))
         self.server.answer()
         if not self.update('%s && %s' % (HAS_SIZE % tuple(size), HAS_RATIO % ratio)):
-            self.resize(*size)
-            self.scale(ratio)
+            # The ratio first: at the ratio of the script before, the window may not have this size.
+            self.sized = tuple(size)
+            Firefox.scale(self, ratio)
+            self.size(*size)
+            self.await_ratio(ratio)
+            self.await_size()
         self.sized = tuple(size)
         for _ in range(2):
             self.update()

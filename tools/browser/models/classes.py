@@ -13,7 +13,7 @@ from .traits import (ANCHORS_BEFORE_LAYOUT, BEGIN_IS_THERE, CALLBACKS_OF_THE_STE
                      FRAMES_FOLLOW_A_RATIO, FRAMES_IN_TIME, FRAMES_LAY_OUT, FRAMES_WAIT, HIDDEN_READS_NOTHING, IMPLICIT_ROOT, LATE_SCROLLS,
                      LENGTHS_ARE_CUT, LENGTHS_ARE_FLOORED, NOTHING_FOR_DETACHED, ONE_PIXEL_AT_LEAST, PERCENTAGES_ARE_CUT,
                      PLACED_AS_ROUNDS_BEGIN, QUERIES_IN_UPDATE, QUEUES_WAIT, ROOTS_GO_AWAY, ROOT_MARGINS_COUNT, SCROLLING_ROOT_UNTOLD,
-                     SCROLLS_ARE_CUT, SIZES_OF_GATHERING, TIMERS_LAY_OUT, WINDOWS_READ_AT_ONCE)
+                     SCROLLS_ARE_CUT, SIZES_OF_GATHERING, TIMERS_LAY_OUT, VIEWPORTS_LAY_OUT, WINDOWS_READ_AT_ONCE)
 
 ALL_THREE = frozenset('''border-widths read-of-dead-frame hidden-frame-keeps-size frame-of-part-pixels reach-of-empty-boxes
     reach-with-margins reach-with-padding scroll-of-part-pixels observe-again first-size offset-of-moved-box frame-order stored-offset
@@ -21,8 +21,8 @@ ALL_THREE = frozenset('''border-widths read-of-dead-frame hidden-frame-keeps-siz
     scroll-margin-percentages scroll-margin-of-viewports scroll-margin-of-root positioned-root viewport-of-part-pixels'''.split())
 CHROMIUM = ALL_THREE | {ANCHORS_BEFORE_LAYOUT, DEVICE_PIXELS_ARE_LAID_OUT, EMPTY_PAGES_LAY_OUT, LATE_SCROLLS, LENGTHS_ARE_FLOORED, NOTHING_FOR_DETACHED,
                         ONE_PIXEL_AT_LEAST, PERCENTAGES_ARE_CUT, PLACED_AS_ROUNDS_BEGIN, ROOTS_GO_AWAY, ROOT_MARGINS_COUNT,
-                        SCROLLING_ROOT_UNTOLD} | set('''
-    event-of-idle-document ratio-scroll-event scroll-anchoring scroll-of-hidden-frame unobserve-in-delivery queue-after-unobserve
+                        SCROLLING_ROOT_UNTOLD, VIEWPORTS_LAY_OUT} | set('''
+    event-of-idle-document ratio-change-event ratio-scroll-event scroll-anchoring scroll-of-hidden-frame unobserve-in-delivery queue-after-unobserve
     listener-of-adopted-element frame-callback-late rounds-by-turns depth-at-gathering skipped-then-cured dead-frame-target
     target-of-dead-frame observers-in-any-order margin-of-part-pixels crossed-root cut-in-a-frame told-of-dead-root
     entries-of-dead-document ratio-resize-event device-pixels-by-place lengths-at-a-ratio'''.split())

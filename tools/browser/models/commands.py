@@ -11,10 +11,10 @@ from .layout import FIRST_FRAME, ONE, PIXEL, in_units, whole, whole_window
 from .rounds import NEVER
 from .traits import (BEGIN_IS_THERE, DEAD_READS_THROW, DEVICE_PIXELS_ARE_LAID_OUT, FIRST_USE_COUNTS, FRAMES_BEGIN_AS_THEY_COME,
                      FRAMES_FOLLOW_A_RATIO, FRAMES_IN_TIME, HIDDEN_READS_NOTHING, NOTHING_FOR_DETACHED, QUEUES_WAIT, SCROLLS_ARE_CUT,
-                     WINDOWS_READ_AT_ONCE)
+                     VIEWPORTS_LAY_OUT, WINDOWS_READ_AT_ONCE)
 
 # A zero without a unit, as a part of a margin.
-NO_LENGTH = re.compile(rb'^-?0+(\.0+)?$')
+NO_LENGTH = re.compile(rb'^[-+]?(0+(\.0+)?|\.0+)([eE][-+]?[0-9]+)?$')
 SCROLLING = ('hidden', 'scroll', 'auto')
 # The property with which the tool sets each field when it creates an element: setting it with another one is a change, whatever the value.
 GIVEN = dict([(name, name) for name in ('display', 'box-sizing', 'min-width', 'min-height')] + [
@@ -28,10 +28,14 @@ class Commands:
         EFFECTS['viewport'](self, command, width, height)
         if self.began:
             self.learns(self.world.top, whole_window((width, height)))
-            self.lay_out(self.world.top)
+            if self.has(VIEWPORTS_LAY_OUT):
+                self.lay_out_all()
+            else:
+                self.lay_out(self.world.top)
 
     def do_ratio(self, command, hundredths):
-        changes, is_less = hundredths != self.world.pixel_ratio, hundredths < self.world.pixel_ratio
+        old = self.world.pixel_ratio
+        changes, is_less = hundredths != old, hundredths < old
         EFFECTS['ratio'](self, command, hundredths)
         if changes:
             self.world.changed()
@@ -39,12 +43,26 @@ class Commands:
             self.rescaled = {document for document in self.documents_in_order() if document.frame is None or (
                 document in self.known and self.world.layout.shows(document))}
             self.resized |= self.rescaled
+            self.change_for_a_moment(old, hundredths)
             if self.has(FRAMES_FOLLOW_A_RATIO):
                 # A lower ratio makes frames larger, until the page around them is laid out.
                 self.lowered = self.rescaled - {self.world.top} if is_less else set()
             if self.has('ratio-scroll-event'):
                 self.lay_out_all()
                 self.scroll_by_ratio()
+
+    def change_for_a_moment(self, old, new):
+        """Until the tool has set its size again, the window has as many device pixels as before: what a query list is then is forgotten, but
+        not that it has changed."""
+        if not self.has('ratio-change-event'):
+            return
+        top, size = self.world.top, whole_window(self.world.viewport_size)
+        between = tuple([in_units(-(-side * old // (PIXEL * ONE)), new) for side in size])
+        for queries in self.world.query_lists:
+            if queries.document is top and matches(queries.queries, between) != matches(queries.queries, size) and self.differs('ratio-change-event'):
+                self.changed_for_a_moment.add(queries)
+        self.evaluate(top, between)
+        self.evaluate(top, size)
 
     def scroll_by_ratio(self):
         """What is scrolled is scrolled again, to whole device pixels."""
@@ -166,8 +184,10 @@ class Commands:
             self.anchors.scrolls(thing)
 
     def do_set(self, command, node, property_, declaration):
-        style, had_box = dict(node.style), self.has_box_here(node)
+        style, had_box, was_dirty = dict(node.style), self.has_box_here(node), self.is_dirty
         EFFECTS['set'](self, command, node, property_, declaration)
+        # The same value again isn't a change.
+        self.is_dirty = was_dirty or node.style != style
         self.anchors.changes(node, property_)
         self.changed_in(node.document)
         given = self.given.setdefault(node, dict(GIVEN))
@@ -193,8 +213,9 @@ class Commands:
             self.to_be_made.setdefault(node.document, set()).update(inner)
 
     def do_grow(self, command, node, property_, by):
-        style = dict(node.style)
+        style, was_dirty = dict(node.style), self.is_dirty
         EFFECTS['grow'](self, command, node, property_, by)
+        self.is_dirty = was_dirty or node.style != style
         self.anchors.changes(node, property_)
         self.changed_in(node.document)
         self.changed_documents.add(tree_document(node))

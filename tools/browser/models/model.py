@@ -24,6 +24,7 @@ class Model(Commands, Viewports, Rounds, Crossings, Page):
         self.order = order
         self.known = {}                   # document -> the viewport's size that the browser has given it
         self.resized = set()              # documents with a `resize` to be fired
+        self.changed_for_a_moment = set()    # query lists whose `change` is due to a ratio
         self.lowered = set()              # documents in frames since the ratio was lowered, up to the end of the next update
         self.frame_came = {}              # document -> the size of its frame when that was inserted
         self.rescaled = set()             # those of them with one that is due to a ratio
@@ -40,6 +41,7 @@ class Model(Commands, Viewports, Rounds, Crossings, Page):
         self.insertions = {}              # document -> number, in the order in which their frames were inserted
         self.sizes = {}                   # resize observers' targets -> their sizes at the last layout
         self.round = None
+        self.had_turns = set()            # documents that have had a turn in this resize loop
         self.placed = {}                  # resize observers' targets -> their positions as the round began
         self.to_be_made = {}              # document -> those in its frames whose boxes are created anew when it is laid out
         self.anew = set()                 # documents with a `resize` to be fired for that

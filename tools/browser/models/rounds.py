@@ -42,6 +42,7 @@ class Rounds:
     def rounds_by_turns(self):
         least, delivered = {}, True
         self.failed.clear()
+        self.had_turns = set()
         # A listener of an error that leaves something to be laid out causes one more turn.
         while delivered or self.disturbed:
             self.placed, self.disturbed = {}, False
@@ -51,6 +52,7 @@ class Rounds:
             delivered = False
             for document in self.documents_of_turn():
                 # The page itself has a list of observers from its start, a frame only from its first observer on.
+                self.had_turns.add(document)
                 if document.state is ACTIVE and (document.frame is None or document.resize_observers):
                     reached = self.one_round(document, least.get(document, 0))
                     # A document with nothing to deliver in a turn has no more rounds in this update.
@@ -74,7 +76,7 @@ class Rounds:
         """Remembers the sizes of all boxes: the documents of one turn are gathered from one layout."""
         for document in self.documents_in_order():
             # A page that has come into the tree in this update hasn't been laid out yet.
-            is_new = document in self.new_documents and self.differs('rounds-by-turns')
+            is_new = document in self.new_documents and document not in self.had_turns and self.differs('rounds-by-turns')
             for node in preorder(document.root) if document.root is not None else ():
                 self.sizes[node] = NO_SIZES if is_new else self.size_now(node)
 

@@ -24,6 +24,8 @@ SCROLLING_ROOT_UNTOLD, IMPLICIT_ROOT, EVERY_ROOT = 'a root that scrolls, untold'
 ANCHORS_BEFORE_LAYOUT = 'anchors before layout'
 # Frames that are inserted again: the empty page in one lays out the documents around it, like any new page, before the next commands run.
 EMPTY_PAGES_LAY_OUT = 'empty pages lay out'
+# A viewport that is set: all documents are laid out, not only the page's own.
+VIEWPORTS_LAY_OUT = 'viewports lay out'
 # Frames that are inserted: the documents around one are laid out at once, if they have been before.
 FRAMES_LAY_OUT = 'frames lay out'
 # Roots that are in no tree: one that has moved to another document belongs to none.

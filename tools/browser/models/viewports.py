@@ -380,9 +380,12 @@ class Viewports:
                 state = matches(queries.queries, size)
                 fires = state != self.states.get(queries, state)
                 self.states[queries] = state
-                if fires != (queries in changed) and not (document.root is None and self.has('queries-of-empty-page')):
+                if queries in self.changed_for_a_moment and queries in changed and not fires:
+                    self.noticed.add('ratio-change-event')
+                elif fires != (queries in changed) and not (document.root is None and self.has('queries-of-empty-page')):
                     late = 'media-change-missed' if whole_window(size) == size else 'viewport-of-part-pixels'
                     self.noticed.add('media-of-frame' if document.frame else late)
+        self.changed_for_a_moment -= set(changed)
 
     def scroll_steps(self, document):
         update._scroll_steps(self, document)
