@@ -107,11 +107,12 @@ class RichEditor {
       for (const [line, sentence] of trouble) this.gutter(line, '\u26a0', 'odd', sentence);
       for (const line of blamed) this.underline(line, 1, 0, 'blamed', 'A command that can cause a loop error');
       if (!fault) return;
-      this.underline(fault.line, fault.column, fault.length, 'fault', fault.sentence);
-      this.gutter(fault.line, '\u2717', 'bad', fault.sentence);
+      const title = fault.sentence.replace(/`/g, '');
+      this.underline(fault.line, fault.column, fault.length, 'fault', title);
+      this.gutter(fault.line, '\u2717', 'bad', title);
       const note = document.createElement('div');
       note.className = 'told';
-      note.textContent = fault.sentence;
+      note.innerHTML = shown(quoted(fault.sentence));
       const at = Math.min(fault.line, this.editor.lineCount()) - 1;
       this.marks.push(this.editor.addLineWidget(at, note, { above: false }));
     });
