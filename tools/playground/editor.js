@@ -150,7 +150,7 @@ class RichEditor {
 }
 function shownOption(item, data, option) {
   const said = document.createElement('small');
-  said.textContent = `  ${option.said}`;
+  said.textContent = option.said && `  ${option.said}`;
   item.append(option.text, said);
 }
 

@@ -48,8 +48,9 @@ const TOLD = {
     const isFault = state.trace.status === 1;
     panes.showRun(message.data, state.isOther, isFault);
     state.isOther = false;
-    at('state').textContent = isFault && panes.hasPicture ? 'Not a script now; this is the run before.'
+    const said = isFault && panes.hasPicture ? 'Not a script now; this is the run before.'
       : isFault ? 'Not a script.' : `${counted(message.data.lineCount, 'line')} in ${tookSaid(state.trace.took)}`;
+    if (at('state').textContent !== said) at('state').textContent = said;
   },
   said(message) {
     ended();
@@ -114,7 +115,7 @@ function troubles(data) {
     const rows = data.lines.map((row, place) => ({ row, place })).filter(({ row }) => row[0].startsWith(begin));
     if (!rows.length) continue;
     const { row, place } = rows[0], line = begin === 'throw ' ? Number(row[0].split(' ')[1]) : row[1], tick = tickOf(data, place);
-    found.push(html`<b class="${kind}">${counted(rows.length, one)}</b>, the first ${tick > 0 && html`in ${toTick(tick)}`}${tick > 0 && line > 0 && begin !== 'event error' && ', '}${
+    found.push(html`<b class="${kind}">${counted(rows.length, one)}</b>, the first ${tick > 0 ? html`in ${toTick(tick)}` : 'at the start'}${line > 0 && begin !== 'event error' && ', '}${
       line > 0 && begin !== 'event error' && toLine(line)}${begin === 'limit ' && html`: <code>${row[0]}</code>`}${begin === 'throw ' && html`: ${row[0].split(' ')[2]}`}`);
   }
   if (!found.length) found.push(html`<b class="good">Runs</b> without a loop error, an exception or a limit.`);
