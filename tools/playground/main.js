@@ -49,7 +49,7 @@ const TOLD = {
     panes.showRun(message.data, state.isOther, isFault);
     state.isOther = false;
     const said = isFault && panes.hasPicture ? 'Not a script now; this is the run before.'
-      : isFault ? 'Not a script.' : `${counted(message.data.lineCount, 'line')} in ${tookSaid(state.trace.took)}`;
+      : isFault ? 'Not a script.' : `${counted(message.data.lineCount, 'line')} of trace in ${tookSaid(state.trace.took)}`;
     if (at('state').textContent !== said) at('state').textContent = said;
   },
   said(message) {

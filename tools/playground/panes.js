@@ -93,7 +93,7 @@ class Panes {
     const news = rows.filter(row => row[1] === 'new').length, gone = rows.filter(row => row[1] === 'gone').length;
     const size = `${number(this.lines.length)} ${this.lines.length === 1 ? 'line' : 'lines'}${this.whole.size > this.whole.shown ? ' of a longer trace' : ''}`;
     const differs = this.before === null ? '' : news + gone === 0 ? '; the same as in the run before' : `; against the run before, ${news} new and ${gone} gone`;
-    at('trace-said').textContent = `${size}${differs}.${left > 0 ? ` The first ${number(MOST_TRACE_LINES)} are shown; the whole trace can be saved.` : ''}`;
+    at('trace-said').textContent = `${size}${differs}. Choose a line to see the command that wrote it.${left > 0 ? ` The first ${number(MOST_TRACE_LINES)} are shown; the whole trace can be saved.` : ''}`;
   }
   rows() {
     if (this.before === null || this.before.length > 20000 || this.lines.length > 20000) return this.lines.map(text => [text, '']);
