@@ -154,6 +154,8 @@ function shownOption(item, data, option) {
   item.append(option.text, said);
 }
 
+// A field would make a line feed of a carriage return, which is a letter of a script: there it is shown as this sign.
+const RETURN = '\u240d';
 class PlainEditor {
   constructor(holder) {
     const outer = document.createElement('div');
@@ -170,9 +172,15 @@ class PlainEditor {
     const count = this.field.value.split('\n').length;
     this.numbers.textContent = Array.from({ length: count }, (_, at) => at + 1 === this.wrong ? `\u2717 ${at + 1}` : at + 1).join('\n');
   }
-  get text() { return this.field.value; }
-  set text(text) { this.field.value = text; this.number(); }
-  replace(text) { this.field.select(); if (!document.execCommand('insertText', false, text)) this.field.value = text; this.number(); this.changed(); }
+  get text() { return this.field.value.replaceAll(RETURN, '\r'); }
+  set text(text) { this.field.value = text.replaceAll('\r', RETURN); this.number(); }
+  replace(text) {
+    const signed = text.replaceAll('\r', RETURN);
+    this.field.select();
+    if (!document.execCommand('insertText', false, signed)) this.field.value = signed;
+    this.number();
+    this.changed();
+  }
   focus() { this.field.focus(); }
   undo() { this.field.focus(); document.execCommand('undo'); }
   redo() { this.field.focus(); document.execCommand('redo'); }
