@@ -86,7 +86,8 @@ def _wanted(begun, version):
 
 def _fitting(form, known):
     """(word, what it is) for the words that fit a form."""
-    found = [(word, form.said) for word in form.keywords]
+    said = form.said.partition(':')[0].replace('`', '') if form.shown in ('VALUE', 'PROPERTY') else ''
+    found = [(word, said) for word in form.keywords]
     if form.names == forms.HANDLER_NAME:
         found += [(name, 'handler') for name in known.names[forms.HANDLER_NAME]]
         if form is forms.HANDLER_OR_NONE:
@@ -99,9 +100,8 @@ def _fitting(form, known):
             found.append(('-', 'the implicit root'))
         if form is forms.LISTENED:
             found += [('@' + name, 'window') for name in known.names[forms.DOCUMENT]]
-    if form.shown == 'VALUE':
-        found += [(word, 'an example') for word in ('100px', '50%')]
-    return found + [(word, 'an example') for word in _PLAIN.get(form.shown, ())]
+    examples = ('100px', '50%') if form.shown == 'VALUE' else _PLAIN.get(form.shown, ())
+    return found + [(word, 'an example') for word in examples if form.read(word.encode()) is not None]
 
 
 def completions(text, number, column):

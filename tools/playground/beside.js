@@ -22,7 +22,7 @@ class Beside {
   say(sentence) { at('browser-said').textContent = sentence; }
   async compare(bytes, lines) {
     fill('beside', '');
-    if (lines.length > MOST_COMPARED) return this.say(`The trace has more than ${number_(MOST_COMPARED)} lines, which is too long to compare here.`);
+    if (lines.length > MOST_COMPARED) return this.say(`The trace has more than ${number(MOST_COMPARED)} lines, which is too long to compare here.`);
     this.say('Running \u2026');
     const answer = await this.ask('plan', { bytes });
     const plan = answer && answer.plan;
@@ -31,7 +31,7 @@ class Beside {
     const [failed, why, told] = await observersAnswer(plan);
     if (failed) this.say(failed === 'failed' ? `The run in this browser failed: ${why}.` : `This browser can\u2019t show the script: ${why}.`);
     const rows = observersBeside(lines, told), differ = rows.filter(row => row[2] !== ' ').length;
-    if (!failed) this.say(differ ? `This browser differs from the rules in ${differ} of ${rows.length} lines.` : 'This browser gives the trace of the rules.');
+    if (!failed) this.say(differ ? `This browser differs from the rules in ${number(differ)} of ${counted(rows.length, 'line')}.` : 'This browser gives the trace of the rules.');
     fill('beside', html`${this.table(rows)}`);
     if (!failed && differ) await this.classify(bytes, told);
   }

@@ -107,11 +107,12 @@ class RichEditor {
       for (const [line, sentence] of trouble) this.gutter(line, '\u26a0', 'odd', sentence);
       for (const line of blamed) this.underline(line, 1, 0, 'blamed', 'A command that can cause a loop error');
       if (!fault) return;
-      this.underline(fault.line, fault.column, fault.length, 'fault', fault.sentence);
-      this.gutter(fault.line, '\u2717', 'bad', fault.sentence);
+      const title = fault.sentence.replace(/`/g, '');
+      this.underline(fault.line, fault.column, fault.length, 'fault', title);
+      this.gutter(fault.line, '\u2717', 'bad', title);
       const note = document.createElement('div');
       note.className = 'told';
-      note.textContent = fault.sentence;
+      note.innerHTML = shown(quoted(fault.sentence));
       const at = Math.min(fault.line, this.editor.lineCount()) - 1;
       this.marks.push(this.editor.addLineWidget(at, note, { above: false }));
     });
@@ -149,10 +150,12 @@ class RichEditor {
 }
 function shownOption(item, data, option) {
   const said = document.createElement('small');
-  said.textContent = `  ${option.said}`;
+  said.textContent = option.said && `  ${option.said}`;
   item.append(option.text, said);
 }
 
+// A field would make a line feed of a carriage return, which is a letter of a script: there it is shown as this sign.
+const RETURN = '\u240d';
 class PlainEditor {
   constructor(holder) {
     const outer = document.createElement('div');
@@ -169,9 +172,15 @@ class PlainEditor {
     const count = this.field.value.split('\n').length;
     this.numbers.textContent = Array.from({ length: count }, (_, at) => at + 1 === this.wrong ? `\u2717 ${at + 1}` : at + 1).join('\n');
   }
-  get text() { return this.field.value; }
-  set text(text) { this.field.value = text; this.number(); }
-  replace(text) { this.field.select(); if (!document.execCommand('insertText', false, text)) this.field.value = text; this.number(); this.changed(); }
+  get text() { return this.field.value.replaceAll(RETURN, '\r'); }
+  set text(text) { this.field.value = text.replaceAll('\r', RETURN); this.number(); }
+  replace(text) {
+    const signed = text.replaceAll('\r', RETURN);
+    this.field.select();
+    if (!document.execCommand('insertText', false, signed)) this.field.value = signed;
+    this.number();
+    this.changed();
+  }
   focus() { this.field.focus(); }
   undo() { this.field.focus(); document.execCommand('undo'); }
   redo() { this.field.focus(); document.execCommand('redo'); }

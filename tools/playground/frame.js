@@ -74,9 +74,10 @@ drawing.put = function () {
 
 // ---- the program's own answers for a tick ----
 
+const TO_HIT = 'Click a point of the drawing to ask the program what it hits.';
 const MOST_ANSWER = 100000;            // letters of `--inspect` that are shown
 const answers = document.createElement('section');
-answers.innerHTML = '<p id="hit-said" role="status">Click a point of the drawing to ask the program what it hits.</p><details id="inspect"><summary>Each box, as <code>--inspect</code> says it</summary><pre id="inspected" tabindex="0" aria-label="boxes"></pre></details>';
+answers.innerHTML = '<p id="hit-said" role="status"></p><details id="inspect"><summary>Each box, as <code>--inspect</code> says it</summary><pre id="inspected" tabindex="0" aria-label="boxes"></pre></details>';
 at('pointer').after(answers);
 const tickNow = () => data.steps[chosen.place].kind === 'tick' ? data.steps[chosen.place].number : 0;
 const inWords = units => `${Math.round(units / UNITS * 100) / 100}px`;
@@ -97,7 +98,9 @@ const showStepOfViewer = showStep;
 // The story of a new run waits for its explanations, so that it isn't drawn twice.
 showStep = (step, place) => {
   if (!unsaid || isRefused()) showStepOfViewer(step, place);
-  at('hit-said').textContent = '';
+  const said = host.answer && tickNow() ? TO_HIT : '';
+  if (at('hit-said').textContent !== said) at('hit-said').textContent = said;
+  at('troubles').hidden = isRefused();           // which is said below once more
   inspect();
 };
 

@@ -48,12 +48,14 @@ class Lessons {
   draw() {
     const { title, about, task, checks } = this.lesson, isDone = this.states.every(Boolean), isLast = this.place === this.all.length - 1;
     at('lesson').hidden = false;
-    fill('lesson', html`<h2 id="lesson-title">Lesson ${this.place + 1} of ${this.all.length}: ${title}</h2>${about.map(paragraph => html`<p>${quoted(paragraph)}</p>`)}
+    fill('lesson', html`<div class="bar"><h2 id="lesson-title">Lesson ${this.place + 1} of ${this.all.length}: ${title}</h2>
+      <button type="button" data-lesson="close" aria-label="Close the lesson">\u00d7</button></div>
+      <div class="about" tabindex="0" role="group" aria-label="What it is about">${about.map(paragraph => html`<p>${quoted(paragraph)}</p>`)}</div>
       <p class="task"><b>Task:</b> ${task.map(paragraph => quoted(paragraph))}</p>
       <ul class="steps" aria-live="polite">${checks.map((check, place) => html`<li class="${this.states[place] ? 'done' : 'open'}"><span aria-hidden="true">${this.states[place] ? '\u2713' : '\u25cb'}</span><span><span class="hidden">${this.states[place] ? 'done: ' : 'to do: '}</span>${quoted(check.said)}</span></li>`)}</ul>
       ${isDone && html`<p class="ended" role="status">Done.${isLast ? ' This was the last lesson.' : ''}</p>`}
-      <div class="tools">${!isLast && html`<button type="button" data-lesson="next">${isDone ? 'Next lesson' : 'Skip to the next'}</button>`}
+      <div class="tools">${!isLast && html`<button type="button" data-lesson="next" class="${isDone && 'next'}">${isDone ? 'Next lesson' : 'Skip to the next'}</button>`}
       ${this.place > 0 && html`<button type="button" data-lesson="previous">Previous</button>`}
-      <button type="button" data-lesson="again">Begin again</button><button type="button" data-lesson="solve">Show a solution</button><button type="button" data-lesson="close">Close</button></div>`);
+      <button type="button" data-lesson="again">Begin again</button><button type="button" data-lesson="solve">Show a solution</button></div>`);
   }
 }

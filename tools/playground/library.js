@@ -43,7 +43,7 @@ class Pattern {
   }
   $findall(text) { return [...this.$finditer(text)].map(found => found.found.length > 1 ? found.$group(1) : found.$group()); }
   $sub(by, text) {
-    const put = typeof by === 'function' ? (...given) => by(new Match(Object.assign(given.slice(0, -2), { index: given[given.length - 2] }), this.isBytes))
+    const put = typeof by === 'function' ? (...given) => textOf(by(new Match(Object.assign(given.slice(0, -2), { index: given[given.length - 2] }), this.isBytes)))
       : textOf(by).replace(/\\(\d)/g, '$$$1');
     return like(text, textOf(text).replace(this.anywhere, put));
   }

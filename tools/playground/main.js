@@ -48,8 +48,9 @@ const TOLD = {
     const isFault = state.trace.status === 1;
     panes.showRun(message.data, state.isOther, isFault);
     state.isOther = false;
-    at('state').textContent = isFault && panes.hasPicture ? 'Not a script now; this is the run before.'
-      : isFault ? 'Not a script.' : `${counted(message.data.lineCount, 'line')} in ${tookSaid(state.trace.took)}`;
+    const said = isFault && panes.hasPicture ? 'Not a script now; this is the run before.'
+      : isFault ? 'Not a script.' : `${counted(message.data.lineCount, 'line')} of trace in ${tookSaid(state.trace.took)}`;
+    if (at('state').textContent !== said) at('state').textContent = said;
   },
   said(message) {
     ended();
@@ -95,11 +96,11 @@ function faultOf(data) {
   const rest = explanation.slice(explanation.indexOf(mark) + 1);
   const about = rest.filter(line => !/^ /.test(line) && !/^Syntax/.test(line)), forms = rest.filter(line => /^ /.test(line)).map(line => line.trim());
   const sentence = [here && here[0].toUpperCase() + here.slice(1) + '.', ...about].filter(Boolean).join(' ');
-  return { line: Number(words[1]), column: Number(words[2]), length, sentence: (sentence || 'Not a script.').replace(/`/g, ''), explanation, forms };
+  return { line: Number(words[1]), column: Number(words[2]), length, sentence: sentence || 'Not a script.', explanation, forms };
 }
 function showVerdict(data, blamed) {
   const fault = faultOf(data), items = [];
-  if (fault) items.push(html`<span class="bad"><b>Not a script:</b></span> ${toLine(fault.line, `line ${fault.line}, column ${fault.column}`)}. ${fault.sentence}${
+  if (fault) items.push(html`<span class="bad"><b>Not a script:</b></span> ${toLine(fault.line, `line ${fault.line}, column ${fault.column}`)}. ${quoted(fault.sentence)}${
     fault.forms.length > 0 && html`<pre>${fault.forms.join('\n')}</pre>`}`);
   else items.push(...troubles(data), ...lintSaid());
   for (const note of data.notes) items.push(quoted(note));
@@ -114,7 +115,7 @@ function troubles(data) {
     const rows = data.lines.map((row, place) => ({ row, place })).filter(({ row }) => row[0].startsWith(begin));
     if (!rows.length) continue;
     const { row, place } = rows[0], line = begin === 'throw ' ? Number(row[0].split(' ')[1]) : row[1], tick = tickOf(data, place);
-    found.push(html`<b class="${kind}">${counted(rows.length, one)}</b>, the first ${tick > 0 && html`in ${toTick(tick)}`}${tick > 0 && line > 0 && begin !== 'event error' && ', '}${
+    found.push(html`<b class="${kind}">${counted(rows.length, one)}</b>, the first ${tick > 0 ? html`in ${toTick(tick)}` : 'at the start'}${line > 0 && begin !== 'event error' && ', '}${
       line > 0 && begin !== 'event error' && toLine(line)}${begin === 'limit ' && html`: <code>${row[0]}</code>`}${begin === 'throw ' && html`: ${row[0].split(' ')[2]}`}`);
   }
   if (!found.length) found.push(html`<b class="good">Runs</b> without a loop error, an exception or a limit.`);
@@ -133,11 +134,12 @@ function troubleLines(data) {
 function lintSaid() {
   const lines = state.trace.lint.trim().split('\n').map(line => line.split(' '));
   const last = lines[lines.length - 1];
-  if (last[0] === 'quiet') return [html`<code>--lint</code>: <b>quiet</b>. No run of these handlers ends a resize loop with the error.`];
+  if (last[0] === 'quiet') return [html`Without a run, <code>--lint</code> says <b>quiet</b>: no run of these handlers ends a resize loop with the error.`];
   const found = [];
   for (const [verdict, line] of lines) {
-    if (verdict === 'unsteady') found.push(html`<code>--lint</code>: <b>unsteady</b>, because of ${toLine(line)}: it moves elements in a resize observer\u2019s callback, so a loop may go on without getting deeper.`);
-    if (verdict === 'unquiet') found.push(html`<code>--lint</code>: <b>unquiet</b>, because of ${toLine(line)}: it can change a size in a resize observer\u2019s callback, so a loop may end with the error.`);
+    const verdictBefore = found.length > 0;
+    if (verdict === 'unsteady') found.push(html`Without a run, <code>--lint</code> says <b>unsteady</b>, because of ${toLine(line)}: it moves elements in a resize observer\u2019s callback, so a loop may go on without getting deeper.`);
+    if (verdict === 'unquiet') found.push(html`${verdictBefore ? 'And' : html`Without a run, <code>--lint</code> says`} <b>unquiet</b>, because of ${toLine(line)}: it can change a size in a resize observer\u2019s callback, so a loop may end with the error.`);
   }
   return found;
 }
@@ -271,9 +273,9 @@ async function compiled() {
 function showOrigin(module, why) {
   const unproved = module && parts.module.unproved;
   fill('origin', !module ? html`<span class="odd">${why} Traces are those of the reference program; all else works.</span>`
-    : unproved ? html`<span class="odd">Traces: an <b>unproved</b> build of the program (${unproved}).</span>`
+    : unproved ? html`<span class="odd">Traces: an <b>unproved</b> build of the program.</span>`
       : 'Traces: the proved program\u2019s. Boxes and causes: the reference program\u2019s.');
-  fill('help-origin', html`${!module ? why : unproved ? 'The program in this page is unproved.' : 'The trace is written by the proved program, compiled to WebAssembly: the text is proved; the toolchain that compiles it and its memory are trusted.'} ${
+  fill('help-origin', html`${!module ? why : unproved ? `The program in this page is unproved: ${unproved}. ` : 'The trace is written by the proved program, compiled to WebAssembly: the text is proved; the toolchain that compiles it and its memory are trusted.'} ${
     ''}Boxes, causes and explanations come from the reference program, a second implementation of the rules whose trace must be the same, byte for byte; a note says so if it isn\u2019t.`);
   document.documentElement.dataset.program = !module ? 'reference' : unproved ? 'unproved' : 'proved';
 }

@@ -85,15 +85,15 @@ class Panes {
   }
   drawTrace() {
     const rows = this.rows().slice(0, MOST_TRACE_LINES), left = this.lines.length - MOST_TRACE_LINES;
-    let number = 0;
+    let place = 0;
     fill('trace', rows.map(([text, mark]) => {
-      if (mark !== 'gone') number++;
-      return this.row(text, mark, mark === 'gone' ? 0 : number);
+      if (mark !== 'gone') place++;
+      return this.row(text, mark, mark === 'gone' ? 0 : place);
     }));
     const news = rows.filter(row => row[1] === 'new').length, gone = rows.filter(row => row[1] === 'gone').length;
-    const size = `${number_(this.lines.length)} ${this.lines.length === 1 ? 'line' : 'lines'}${this.whole.size > this.whole.shown ? ' of a longer trace' : ''}`;
+    const size = `${number(this.lines.length)} ${this.lines.length === 1 ? 'line' : 'lines'}${this.whole.size > this.whole.shown ? ' of a longer trace' : ''}`;
     const differs = this.before === null ? '' : news + gone === 0 ? '; the same as in the run before' : `; against the run before, ${news} new and ${gone} gone`;
-    at('trace-said').textContent = `${size}${differs}.${left > 0 ? ` The first ${number_(MOST_TRACE_LINES)} are shown; the whole trace can be saved.` : ''}`;
+    at('trace-said').textContent = `${size}${differs}. Choose a line to see the command that wrote it.${left > 0 ? ` The first ${number(MOST_TRACE_LINES)} are shown; the whole trace can be saved.` : ''}`;
   }
   rows() {
     if (this.before === null || this.before.length > 20000 || this.lines.length > 20000) return this.lines.map(text => [text, '']);
@@ -112,4 +112,3 @@ class Panes {
     return line && line[1] || 0;
   }
 }
-const number_ = count => count.toLocaleString('en');

@@ -544,19 +544,22 @@ function reprOf(value) {
   if (value instanceof Exception) return `${value.constructor.name}(${(value.$args || []).map(reprOf).join(', ')})`;
   return value instanceof Thing ? value.constructor.name : typeof value === 'object' && value ? '{..}' : shownAs(value);
 }
-// A form is cut once: texts, and between them a function for each value.
+// A form is cut once: texts, and between them a function for each value, which takes one more before it if the width is one of them.
 const forms = new Map();
 function formatted(form, given) {
   let parts = forms.get(form);
   if (!parts) forms.set(form, parts = cutForm(form));
   let text = parts[0];
-  for (let at = 1, next = 0; at < parts.length; at += 2) text += parts[at](given[next++]) + parts[at + 1];
+  for (let at = 1, next = 0; at < parts.length; at += 2) {
+    text += (parts[at].length > 1 ? parts[at](given[next++], given[next++]) : parts[at](given[next++])) + parts[at + 1];
+  }
   return text;
 }
 function cutForm(form) {
   const parts = [''];
   let last = 0;
-  for (const found of form.matchAll(/%(?:%|(-?)(0?)(\d*)([sdrXxi]))/g)) {
+  for (const found of form.matchAll(/%(?:%|(-?)(0?)(\d*|\*)([sdrXxi])|\.(\d)f)?/g)) {
+    if (found[0] === '%') throw new Error(`the form ${form}`);
     parts[parts.length - 1] += form.slice(last, found.index) + (found[0] === '%%' ? '%' : '');
     last = found.index + found[0].length;
     if (found[0] !== '%%') parts.push(shownBy(...found.slice(1)), '');
@@ -564,11 +567,14 @@ function cutForm(form) {
   parts[parts.length - 1] += form.slice(last);
   return parts;
 }
-function shownBy(left, zero, width, kind) {
+function shownBy(left, zero, width, kind, places) {
+  if (places !== undefined) return value => Number(value).toFixed(Number(places));
   const plainly = { s: shownAs, r: reprOf, d: value => String(Number.isInteger(value) ? value : whole(value)), i: value => String(whole(value)),
     x: value => value.toString(16), X: value => value.toString(16).toUpperCase() }[kind];
-  if (!width) return plainly;
-  return left ? value => plainly(value).padEnd(Number(width)) : value => plainly(value).padStart(Number(width), zero || ' ');
+  const filled = (text, length) => left ? text.padEnd(length) : !zero ? text.padStart(length)
+    : text.startsWith('-') ? '-' + text.slice(1).padStart(length - 1, '0') : text.padStart(length, '0');
+  if (width === '*') return (length, value) => filled(plainly(value), length);
+  return width ? value => filled(plainly(value), Number(width)) : plainly;
 }
 
 // ---- built-in functions ----

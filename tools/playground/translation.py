@@ -20,6 +20,7 @@ COMPARED = {ast.Lt: 'is_less(%s, %s)', ast.LtE: '!is_less(%1$s, %0$s)', ast.Gt: 
             ast.Eq: 'equals(%s, %s)', ast.NotEq: '!equals(%s, %s)', ast.In: 'contains(%1$s, %0$s)', ast.NotIn: '!contains(%1$s, %0$s)',
             ast.Is: 'is_same(%s, %s)', ast.IsNot: '!is_same(%s, %s)'}
 ORDERED = {ast.Lt: '<', ast.LtE: '<=', ast.Gt: '>', ast.GtE: '>='}
+_PLACES = re.compile(r'%(?:%|-?0?(?:[0-9]*|\*)[sdrXxi]|\.[0-9]f)')          # of values in a form, which python.js fills in
 BOOLEAN = frozenset('isinstance any all hasattr callable startswith endswith isdigit isalpha isalnum isprintable isascii'.split())
 BUILTINS = frozenset('''len isinstance max min tuple range int list sorted enumerate sum set any all reversed zip next divmod dict abs str
 frozenset getattr hasattr float bool bytes chr repr ord iter type print map filter callable'''.split())
@@ -559,6 +560,10 @@ class Module:
         return self.refuse(node)
 
     def of_BinOp(self, node, scope):
+        if isinstance(node.op, ast.Mod) and isinstance(node.left, ast.Constant) and isinstance(node.left.value, (str, bytes)):
+            form = node.left.value if isinstance(node.left.value, str) else node.left.value.decode('latin-1')
+            if '%' in _PLACES.sub('', form):
+                self.refuse(node, 'the form %r' % form)
         left, right = self.value(node.left, scope), self.value(node.right, scope)
         if isinstance(node.op, ast.Mod) and isinstance(node.right, ast.Tuple):
             return 'formatted(%s, %s)' % (left, right)

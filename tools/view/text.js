@@ -12,7 +12,8 @@ function shown(value) {
 function html(parts, ...values) {
   return new Html(parts.reduce((all, part, at) => all + part + (at < values.length ? shown(values[at]) : ''), ''));
 }
-const number = count => count.toLocaleString('en');
+const COUNTS = new Intl.NumberFormat('en');
+const number = count => COUNTS.format(count);
 const counted = (count, one, many = one + 's') => `${number(count)} ${count === 1 ? one : many}`;
 function listed(parts) {
   return parts.length < 2 ? parts.join('') : parts.slice(0, -1).join(', ') + ' and ' + parts[parts.length - 1];
