@@ -247,15 +247,25 @@ class Cures:
                         last.append(command.line)
         return groups
 
-    def _later(self, calls):
-        """Edits by which the lines run in handlers of their own; `calls` gives the lines that request such a handler."""
+    def _later(self, calls, is_once=False):
+        """Edits by which the lines run in handlers of their own; `calls` gives the lines that request such a handler. If it is once, what is
+        in an `each` is requested before it, and so once for all targets."""
         edits, groups, taken = Edits(), self._groups(), self._names()
         for group in groups:
             name = _fresh('later', taken)
-            edits.instead.update({line: [] for line in group[1:]})
-            edits.instead[group[0]] = calls(self.texts[group[0]][0], name)
+            edits.instead.update({line: [] for line in group})
+            outermost, request = self._outermost(group[0]), calls(self.texts[group[0]][0], name)
+            if is_once and outermost != group[0]:
+                edits.before.setdefault(outermost, []).extend(request)
+            else:
+                edits.instead[group[0]] = request
             edits.added += ['handler ' + name] + [text for line in group for text in self.texts[line][1:]] + ['end']
         return edits if groups else None
+
+    def _outermost(self, line):
+        """The line of the command of its handler that this line is in, or is."""
+        return next(command.line for command in self.commands.handler_of[line].commands
+                    if any(inner.line == line for inner in grammar.every_command([command])))
 
     def _names(self):
         """All names in use."""
@@ -265,8 +275,10 @@ class Cures:
         return used | set(self.commands.script.handlers)
 
     def _by_task(self):
-        edits = self._later(lambda document, name: ['post %s %s' % (document, name)])
-        if edits:
+        for is_once in (False, True):
+            edits = self._later(lambda document, name: ['post %s %s' % (document, name)], is_once)
+            if not edits:
+                return
             yield Cure('later, by a task', 'the handler posts a task (`setTimeout` in a page) that makes the change after this update.',
                        'the page is drawn once with the old size, and the new one is reported an update later.', edits)
 

@@ -1,23 +1,32 @@
-"""A world of the reference whose layout is kept where a command changes only a height: the heights up to the first ancestor that has one of
-its own, and the positions of what comes after, are worked out, and all else stays. The reference itself discards the whole layout.
+"""A world of the reference whose layout is kept where a command changes one element: its style, its natural size, or where it stands. What
+is in it, the heights up to the first ancestor that has one of its own, and the positions of what comes after, are worked out, and all else
+stays. The reference itself discards the whole layout, as this world does where a page has frames, positions, or lengths at their limit.
 
-Gives to others: `KeptWorld(version)`; `about_to(command, node)` says before a command what it changes, and `resized` are the elements whose
-boxes have another size since it was emptied.
+Gives to others: `KeptWorld(version)`; `about_to(command, node)` says before a command what it changes; `resized` are the elements whose
+boxes may be others since it was emptied, and `is_rearranged` says that there may be others than then.
 """
 from reference.layout import Layout
-from reference.lengths import capped
-from reference.world import World
+from reference.lengths import GREATEST, capped
+from reference.world import World, preorder
 
 _HEIGHTS = ('height', 'min-height', 'max-height')
 _PLACED = ('position', 'top', 'right', 'bottom', 'left')
 
 
 class KeptLayout(Layout):
-    """A layout that follows changes of heights, as long as no height depends on another one by a percentage or a position."""
+    """A layout that follows changes of one element. Whatever it has worked out is right at any time: a value that is looked up while others
+    are being changed must not depend on these. If all that a value depends on wasn't looked up yet, the value wasn't either."""
 
     def __init__(self, world):
         Layout.__init__(self, world)
-        self._sums, self._sizes = {}, {}  # a block -> the height of what it contains; an element -> the size of its border box
+        self._sums, self._sizes = {}, {}       # a block -> the height of what it contains; an element -> the size of its border box
+        self._insides, self._outsides = {}, {}  # how far what is in an element reaches from its corner, and that with its own box
+        self._siblings_before = {}             # a block -> a child -> the sibling with a box before it
+        self.is_at_limit = False               # whether an offset was cut to the greatest length
+        self._of_elements = (self._boxes, self._containing, self._edges, self._widths, self._heights, self._above, self._flat, self._sums,
+                             self._sizes, self._insides, self._outsides, self._siblings_before)
+
+    # --- what is looked up ----------------------------------------------------------------------------------------------------
 
     def border_size(self, node):
         known = self._sizes.get(node)
@@ -34,108 +43,248 @@ class KeptLayout(Layout):
                                             if self.in_flow(child) and self.has_box(child)])
         return capped(known)
 
-    def change_height(self, node, resized):
-        """Follows a change of an element's own height, or of an image's natural size."""
-        if node.kind == 'image':
-            self._widths.pop(node, None)
-        while node is not None and node in self._heights:
-            before = self.margin_height(node)
-            del self._heights[node]
-            self._sizes.pop(node, None)
+    def _offset(self, node):
+        offset = Layout._offset(self, node)
+        if offset[0] == GREATEST or offset[1] == GREATEST:
+            self.is_at_limit = True
+        return offset
+
+    def element_range(self, node):
+        if not self.world.is_plain:
+            return Layout.element_range(self, node)
+        corner, inside = self.flat_place(node), self._inside(node)
+        far = None if inside is None else (corner[0] + inside[0], corner[1] + inside[1])
+        return self._range(self.padding_size(node), self._flat_padding_corner(node), far)
+
+    def document_range(self, document):
+        if not self.world.is_plain:
+            return Layout.document_range(self, document)
+        root, far = document.root, None
+        if root is not None and self.has_box(root):
+            corner, outside = self.flat_place(root), self._outside(root)
+            far = (corner[0] + outside[0], corner[1] + outside[1])
+        return self._range(self.viewport(document), (0, 0), far)
+
+    def _inside(self, node):
+        """How far the boxes in an element reach to the right and down from its corner, up to clipping boxes; None if there are none."""
+        if node not in self._insides:
+            inner = [child for child in node.children if self.has_box(child)]
+            self._insides[node] = self._reach(node, inner) if inner else None
+        return self._insides[node]
+
+    def _reach(self, node, inner):
+        left, top = self.flat_place(node)
+        places = [self._flat.get(child) or self.flat_place(child) for child in inner]
+        sizes = [self._outsides.get(child) or self._outside(child) for child in inner]
+        return (max([place[0] + size[0] for place, size in zip(places, sizes)]) - left,
+                max([place[1] + size[1] for place, size in zip(places, sizes)]) - top)
+
+    def _outside(self, node):
+        """The same with its own box; what is in it doesn't count where it clips."""
+        known = self._outsides.get(node)
+        if known is None:
+            known, inside = self.border_size(node), None if self.clips(node) else self._inside(node)
+            if inside is not None:
+                known = (max(known[0], inside[0]), max(known[1], inside[1]))
+            self._outsides[node] = known
+        return known
+
+    # --- changes of one element; each returns whether it could be followed ------------------------------------------------------
+
+    def changed_in(self, node, resized):
+        """Follows a change of an element's own style or natural size."""
+        parent = node.parent
+        if parent is None:
+            return node.root_of is None                         # what stands nowhere has no box
+        if not self._holds_boxes(parent):
+            resized.update(preorder(node))                      # only the reason for which they have none may be another one
+            return True
+        had_box, before = self._boxes.get(node), self._share(node)
+        if had_box is None:
+            had_box = False
+        known, inner = self._known_of(node), self._containing_inside(node)
+        for kept in (self._boxes, self._edges, self._widths, self._heights, self._sizes):
+            kept.pop(node, None)
+        if had_box and self.has_box(node) and inner is not None and self._still_fits(node, inner):
+            self._move_inside(node, known)
+            resized.update(node.children)
+        else:
+            self._forget_inside(node)
+            self._flat.pop(node, None)
+            resized.update(preorder(node))
+        resized.add(node)
+        if had_box != self.has_box(node):
+            self._siblings_before.pop(parent, None)
+        return self._follow(parent, node, parent.children.index(node) + 1, before, resized)
+
+    def entered(self, node, resized):
+        """Follows the insertion of an element."""
+        parent = node.parent
+        if parent is None:
+            return False
+        resized.add(parent)
+        resized.update(preorder(node))
+        self._forget(node)
+        self._siblings_before.pop(parent, None)
+        if not self._holds_boxes(parent):
+            return True
+        place = parent.children.index(node)
+        sibling = parent.children[place - 1] if place else None
+        if sibling is None:
+            self._above[node] = 0
+        elif sibling in self._above:
+            self._above[node] = self._above[sibling] + (self._share(sibling) or 0)
+        return self._follow(parent, node, place + 1, 0, resized)
+
+    def left(self, parent, place, node, resized):
+        """Follows the removal of an element that stood at this place in its parent."""
+        resized.add(parent)
+        before = self._share(node)
+        self._forget(node)
+        self._siblings_before.pop(parent, None)
+        return not self._holds_boxes(parent) or self._follow(parent, None, place, before, resized)
+
+    def _holds_boxes(self, parent):
+        return parent.kind == 'block' and self.has_box(parent)
+
+    def _share(self, node):
+        """What an element adds to the height of its parent, as looked up; None if it wasn't, so that nothing depends on it."""
+        if self._boxes.get(node) is False:
+            return 0
+        return self.margin_height(node) if node in self._heights else None
+
+    def _known_of(self, node):
+        return (self._flat.get(node), self._edges.get(node))
+
+    def _containing_inside(self, node):
+        """The containing width and height of what is in an element, as looked up; None if they weren't."""
+        for child in node.children:
+            if child in self._containing:
+                return self._containing[child]
+        return None
+
+    def _still_fits(self, node, before):
+        """Whether what is in an element keeps its sizes."""
+        height = self.height(node) if self._is_definite(node) else None
+        if self.width(node) != before[0] or self.world.has_shares and height != before[1]:
+            return False
+        if height != before[1]:
             for child in node.children:
                 self._containing.pop(child, None)
-            resized.add(node)
-            by = self.margin_height(node) - before
-            parent = node.parent
-            self._reach_again(node, by)
-            if not by or parent is None:
+        return True
+
+    def _move_inside(self, node, known):
+        """Moves what is in an element along with it and with its edges."""
+        place, edges = known
+        self._flat.pop(node, None)
+        if place is None or edges is None:
+            self._forget_places_inside(node)
+            return
+        _, border, padding = edges
+        now, (_, border_now, padding_now) = self.flat_place(node), self.edges(node)
+        by_left = now[0] + border_now[3] + padding_now[3] - place[0] - border[3] - padding[3]
+        by_top = now[1] + border_now[0] + padding_now[0] - place[1] - border[0] - padding[0]
+        if by_left or by_top:
+            self._move_within(node, by_left, by_top)
+
+    def _follow(self, parent, node, place, before, resized):
+        """Follows to what comes after an element, from this place in its parent on, and upwards. `node` is None if it has left."""
+        for child in parent.children[place:]:
+            if self.has_box(child):
+                resized.add(child)                              # whose place is told from the sibling before it
                 break
-            self._move_after(parent, node, by)
-            if parent in self._sums:
-                self._sums[parent] += by
-            node = parent if parent.kind == 'block' else None
+        if before is not None:
+            by = (self.margin_height(node) if node is not None and self.has_box(node) else 0) - before
+            if by:
+                self._move_after(parent, place, by)
+                if parent in self._sums:
+                    self._sums[parent] += by
+                self._follow_height(parent, resized)
+        self._forget_reach(parent if node is None else node)
         self.forget_places()
+        return not self.is_at_limit
 
-    def _reach_again(self, node, by):
-        """Keeps how far boxes reach if an element has grown and that can be followed; otherwise it is worked out when it is asked for."""
-        known = self._reaches.get(node.document)
-        if known is None or not by and node.kind != 'image':
-            return
-        holder = self._clipper(node)
-        if by <= 0 or holder not in known or node not in self._flat or node.kind == 'image':
-            self._reaches.clear()
-            return
-        right, bottom = known[holder]
-        known[holder] = (right, max(bottom, self._flat[node][1] + self.border_size(node)[1]))
+    def _follow_height(self, node, resized):
+        """Follows upwards that what is in an element has another height."""
+        while node is not None and node in self._heights:
+            before, parent = self.margin_height(node), node.parent
+            self._heights.pop(node)
+            self._sizes.pop(node, None)
+            by = self.margin_height(node) - before
+            if not by:
+                return
+            resized.add(node)
+            if parent is not None:
+                self._move_after(parent, parent.children.index(node) + 1, by)
+                if parent in self._sums:
+                    self._sums[parent] += by
+            node = parent
 
-    def _clipper(self, node):
-        """The clipping box that an element's containing block chain reaches first, or PAGE or SCREEN."""
-        holder = self.holder(node)
-        while not isinstance(holder, str) and not self.clips(holder):
-            holder = self.holder(holder)
-        return holder
-
-    def _move_after(self, parent, node, by):
-        """Moves what comes after an element in its parent down by so much."""
-        children, above, flat, sizes, bottom = parent.children, self._above, self._flat, self._sizes, None
-        for child in children[children.index(node) + 1:]:
+    def _move_after(self, parent, place, by):
+        """Moves what comes from a place on in its parent down by so much."""
+        above, flat, top = self._above, self._flat, 0
+        for child in parent.children[place:]:
             if child in above:
                 above[child] += by
-            place = flat.get(child)
-            if place is not None:
-                top = place[1] + by
-                flat[child] = (place[0], top)
-                size = sizes.get(child)
-                if size is not None and (bottom is None or top + size[1] > bottom):
-                    bottom = top + size[1]
+            known = flat.get(child)
+            if known is not None:
+                top = known[1] + by
+                flat[child] = (known[0], top)
             if child.children:
-                self._reaches.clear()                           # what is in it may reach further than itself
-                self._move_within(child, by)
-        known = self._reaches.get(parent.document)
-        if known is not None and bottom is not None:
-            holder = parent if self.clips(parent) else self._clipper(parent)
-            if holder in known:
-                known[holder] = (known[holder][0], max(known[holder][1], bottom))
+                self._move_within(child, 0, by)
+        if top > GREATEST:
+            self.is_at_limit = True
 
-    def _move_within(self, node, by):
+    def _move_within(self, node, by_left, by_top):
+        waiting, flat = list(node.children), self._flat
+        while waiting:
+            inner = waiting.pop()
+            known = flat.get(inner)
+            if known is not None:
+                flat[inner] = (known[0] + by_left, known[1] + by_top)
+            waiting.extend(inner.children)
+
+    # --- what is looked up again ----------------------------------------------------------------------------------------------
+
+    def _forget(self, node):
+        """Forgets all about an element and what is in it."""
+        self._forget_inside(node)
+        for kept in self._of_elements:
+            kept.pop(node, None)
+
+    def _forget_inside(self, node):
         waiting = list(node.children)
         while waiting:
             inner = waiting.pop()
-            place = self._flat.get(inner)
-            if place is not None:
-                self._flat[inner] = (place[0], place[1] + by)
+            for kept in self._of_elements:
+                kept.pop(inner, None)
+            waiting.extend(inner.children)
+        self._sums.pop(node, None)
+        self._siblings_before.pop(node, None)
+
+    def _forget_places_inside(self, node):
+        waiting = list(node.children)
+        while waiting:
+            inner = waiting.pop()
+            self._flat.pop(inner, None)
             waiting.extend(inner.children)
 
-    def _reaches_of(self, document):
-        """As the reference has it, with less looking up."""
-        known = self._reaches.get(document)
-        if known is not None:
-            return known
-        if not self.world.is_plain:
-            return Layout._reaches_of(self, document)
-        known = self._reaches[document] = {}
-        for holder, boxes in self._held(document).items():
-            places = [self.flat_place(node) + self.border_size(node) for node in boxes]
-            known[holder] = (max([left + width for left, _, width, _ in places]), max([top + height for _, top, _, height in places]))
-        return known
-
-    def _held(self, document):
-        """The boxes by the clipping box, PAGE or SCREEN that their containing block chain reaches first."""
-        known = self.__dict__.setdefault('_held_boxes', {}).get(document)
-        if known is None:
-            known = self._held_boxes[document] = {}
-            for node in self._boxes_of(document):
-                known.setdefault(self._clipper(node), []).append(node)
-        return known
+    def _forget_reach(self, node):
+        while node is not None:
+            self._insides.pop(node, None)
+            self._outsides.pop(node, None)
+            node = node.parent
 
 
 class KeptWorld(World):
-    """A world with such a layout. `is_plain` says that no height depends on another one but by an automatic height."""
+    """A world with such a layout. `is_plain` says that each box's containing block is its parent; `has_shares`, that a height may depend
+    on another one but by an automatic height."""
 
     def __init__(self, version):
         World.__init__(self, version)
-        self.is_plain, self.changes_height = True, None
-        self.resized = set()
+        self.is_plain, self.has_shares = True, False
+        self.changes, self.inserts, self.removes = None, None, None  # what the next `changed` is about
+        self.resized, self.is_rearranged = set(), False
 
     @property
     def layout(self):
@@ -149,26 +298,47 @@ class KeptWorld(World):
 
     def about_to(self, command, node):
         """Notes what a command is about to change; `node` is the element that it names first, if it does."""
-        self.changes_height = None
+        self.changes = None
         if command.name == 'frame':
             self.is_plain = False
         elif command.name == 'set':
-            property_, value = command.operands[1].value, command.operands[2].value
-            is_share = isinstance(value, tuple) and value[0] == '%'
-            if property_ in _PLACED or property_ in _HEIGHTS and is_share:
+            property_, value = command.operands[1].value, command.operands[2].value[1]
+            if property_ in _PLACED:
                 self.is_plain = False
-            elif property_ in _HEIGHTS:
-                self.changes_height = node
-        elif command.name == 'grow' and command.operands[1].value == 'height' or command.name == 'load':
-            self.changes_height = node
+            elif property_ in _HEIGHTS and isinstance(value, tuple) and value[0] == '%':
+                self.has_shares = True
+            self.changes = node
+        elif command.name in ('grow', 'load'):
+            self.changes = node
+
+    def insert(self, parent, node, sibling=None):
+        self.inserts = node
+        World.insert(self, parent, node, sibling)
+        self.inserts = None
+
+    def remove(self, node):
+        inserts, parent = self.inserts, node.parent
+        self.inserts = None
+        self.removes = None if parent is None else (parent, parent.children.index(node), node)
+        World.remove(self, node)
+        self.inserts, self.removes = inserts, None
 
     def changed(self):
-        node, layout = self.changes_height, self._layout
-        if node is not None and self.is_plain and layout is not None and layout.has_box(node):
-            layout.change_height(node, self.resized)
-        else:
+        if not (self.is_plain and self._layout is not None and self._follow(self._layout)):
             World.changed(self)
             self.forget_all()
+
+    def _follow(self, layout):
+        if self.removes is not None or self.inserts is not None:
+            self.is_rearranged = True
+        if layout.is_at_limit:
+            return False
+        if self.removes is not None:
+            parent, place, node = self.removes
+            return layout.left(parent, place, node, self.resized)
+        if self.inserts is not None:
+            return layout.entered(self.inserts, self.resized)
+        return self.changes is not None and layout.changed_in(self.changes, self.resized)
 
     def forget_all(self):
         """Called if the whole layout is discarded."""

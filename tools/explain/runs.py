@@ -93,7 +93,7 @@ class CausedPage(Page):
         self.causes.before(command)
         self.world.about_to(command, self._named_first(command))
         Page.do(self, command)
-        self.world.changes_height = None
+        self.world.changes = None
         self.note_changes(command, self.causes.after(command))
 
     def _named_first(self, command):

@@ -81,11 +81,16 @@ def state(world, things, most=MOST_BOXES):
     return found
 
 
-def followed_state(world, things, before, resized):
-    """The boxes of a world in which nothing but scroll positions and the sizes of these elements changed since this state; None if all of
-    them have to be computed, because a box whose containing block isn't its parent moves relative to its parent."""
-    if before is None or before.has_holders:
+def followed_state(world, things, before, resized, is_rearranged=False):
+    """The boxes of a world in which nothing but scroll positions and the boxes of these elements changed since this state, and, if it is
+    rearranged, which elements these have in them; None if all of them have to be computed, because a box whose containing block isn't its
+    parent moves relative to its parent."""
+    if before is None or before.has_holders or is_rearranged and before.left_out:
         return None
+    order = _shown(world) if is_rearranged else ()
+    if len(order) > MOST_BOXES:
+        return None
+    _number(things, order)
     layout, elements, documents = world.layout, list(things.elements), list(things.documents)
     found = State(before.viewport, world.pixel_ratio)
     found.left_out, found.has_holders, found.children = before.left_out, False, before.children
@@ -94,13 +99,44 @@ def followed_state(world, things, before, resized):
     found.elements = dict(before.elements)
     found.scrollers, found.base = set(before.scrollers), before
     changed = {things.elements.get(element) for element in resized} | before.scrollers
-    found.touched = sorted([number for number in changed if number in before.elements])
-    for number in found.touched:
+    gone = _rearrange(things, order, resized, found) if is_rearranged else []
+    changed = [number for number in changed if number in found.elements]
+    found.touched = sorted(changed + gone)
+    for number in changed:
         record = found.elements[number] = _record(layout, things, elements[number])
         if len(record) > SCROLL and record[SCROLL] and not isinstance(record, str):
             found.scrollers.add(number)
     _note_observations(world, things, found)
     return found
+
+
+def _number(things, order):
+    """Gives new elements their numbers, in the order in which `state` meets them."""
+    for element in order:
+        things.element(element)
+        for child in element.children:
+            things.element(child)
+
+
+def _rearrange(things, order, resized, found):
+    """Makes the elements and their children those that are shown now; the records of new ones are empty. Returns what is gone."""
+    shown = {things.elements[element] for element in order}
+    gone = [number for number in found.elements if number not in shown]
+    found.children = dict(found.children)
+    for number in gone:
+        del found.elements[number]
+        found.children.pop(number, None)
+        found.scrollers.discard(number)
+    for element in order:
+        if element not in resized:
+            continue
+        number = things.elements[element]
+        found.elements.setdefault(number, ())
+        if element.children:
+            found.children[number] = tuple([things.elements[child] for child in element.children])
+        else:
+            found.children.pop(number, None)
+    return gone
 
 
 def observed_again(world, things, before):
@@ -170,13 +206,15 @@ def _corner(layout, element):
 
 def _before(layout, element):
     """The sibling with a box before an element, or None."""
-    known = layout.__dict__.setdefault('_siblings_before', {})
-    if element not in known:
-        before = None
-        for child in element.parent.children:
+    all_known, parent = layout.__dict__.setdefault('_siblings_before', {}), element.parent
+    known = all_known.get(parent)
+    if known is None:
+        known, before = {}, None
+        for child in parent.children:
             known[child] = before
             if layout.has_box(child):
                 before = child
+        all_known[parent] = known
     return known[element]
 
 
@@ -214,7 +252,7 @@ def difference(before, after):
         if old is new:
             continue
         if part == 'elements' and before is not None and after.base is before:
-            other = {number: new[number] for number in after.touched if old.get(number) != new[number]}
+            other = {number: new.get(number) for number in after.touched if old.get(number) != new.get(number)}
             changed.update({part: other} if other else {})
             continue
         other = {number: value for number, value in new.items() if old.get(number) != value}

@@ -71,18 +71,19 @@ class _Tasks(list):
 
 
 class _NotingWorld(KeptWorld):
-    """A world that knows whether a box or a scroll position may have changed since the last step, and since the last moment."""
+    """A world that knows whether a box or a scroll position may have changed since the last step, and since the last moment. What
+    `KeptWorld` notes is since the last moment; `resized_before` and `was_rearranged` are from the last step to that moment."""
 
     def __init__(self, version, note):
         KeptWorld.__init__(self, version)
         self.tasks = _Tasks(note)
         self.has_changed = self.has_scrolled = True
-        self.is_new, self.is_other, self.resized_now = True, True, set()     # since the last moment: anything, the whole layout, sizes
+        self.is_new, self.is_other = True, True                # since the last moment: anything, the whole layout
+        self.resized_before, self.was_rearranged = set(), False
 
     def changed(self):
         self.is_new = True
         KeptWorld.changed(self)
-        self.resized_now |= self.resized
 
     def forget_all(self):
         self.has_changed = self.is_other = True
@@ -93,14 +94,20 @@ class _NotingWorld(KeptWorld):
 
     def begin_moments(self):
         """Moments begin with what has changed since the last step."""
-        self.is_other, self.resized_now = self.has_changed, set(self.resized)
+        self.is_other = self.has_changed
+        self.resized, self.is_rearranged = self.resized | self.resized_before, self.is_rearranged or self.was_rearranged
+        self.resized_before, self.was_rearranged = set(), False
 
     def end_moment(self):
-        self.is_new, self.is_other, self.resized_now = False, False, set()
+        self.is_new, self.is_other = False, False
+        self.resized_before |= self.resized
+        self.was_rearranged = self.was_rearranged or self.is_rearranged
+        self.resized, self.is_rearranged = set(), False
 
     def end_step(self):
         self.has_changed = self.has_scrolled = False
-        self.resized = set()
+        self.resized, self.is_rearranged = set(), False
+        self.resized_before, self.was_rearranged = set(), False
 
 
 class Recording(CausedPage):
@@ -182,12 +189,13 @@ class Recording(CausedPage):
 
     def _note_moment(self):
         """Notes the boxes within a tick if they may have changed."""
-        if not self.world.is_new or self.is_beyond or self.ticks < self.first - 1 or self.boxes_left_out_from is not None:
-            return
-        if self.no_moments_from is not None:
-            return
         world = self.world
-        packed = None if world.is_other else boxes.followed_state(world, self.things, self.moment, world.resized_now)
+        if not world.is_new and (self.moment is None or self.moment.ratio == world.pixel_ratio):
+            return
+        if self.is_beyond or self.ticks < self.first - 1 or self.boxes_left_out_from is not None or self.no_moments_from is not None:
+            return
+        packed = None if world.is_other else boxes.followed_state(
+            world, self.things, self.moment, world.resized, world.is_rearranged)
         if packed is None:
             self.boxes_of_moments += 1 + world.elements_made
             if self.boxes_of_moments > MOST_OF_MOMENTS:
@@ -225,13 +233,15 @@ class Recording(CausedPage):
         step.boxes = {}
         world = self.world
         is_rescaled = self.packed is not None and self.packed.ratio != world.pixel_ratio
-        if not (is_rescaled or world.has_changed or world.has_scrolled or world.resized or self.causes.stirred):
+        resized = world.resized | world.resized_before
+        has_found = any(observer.queue for observer in world.intersection_observers)
+        if not (is_rescaled or has_found or world.has_changed or world.has_scrolled or resized or self.causes.stirred):
             return
         packed = None
         if step.kind == TICK and not world.is_new and self.moment is not None:
             packed = boxes.observed_again(world, self.things, self.moment)       # no box has changed since the last moment
         elif not world.has_changed:
-            packed = boxes.followed_state(world, self.things, self.packed, world.resized)
+            packed = boxes.followed_state(world, self.things, self.packed, resized, world.is_rearranged or world.was_rearranged)
         if packed is None:
             packed = boxes.state(world, self.things)
         step.boxes = boxes.difference(self.packed, packed)
