@@ -149,21 +149,29 @@ def make_module(kit, room, text):
          "the module can't be linked")
 
 
+def put(made, path):
+    """Moves a file, from another file system too, so that it is seen whole or not at all."""
+    part = path.with_name(f"part-{os.getpid()}")
+    shutil.move(made, part)
+    part.rename(path)
+
+
 def make(crates, folder, web):
     """Compiles into this folder the library, or the module for web pages."""
     print("tools/unproved_library.py: compiling without proofs, in about a minute, once for these sources", file=sys.stderr, flush=True)
     kit, text = unproved.kit(), folder / "module.ll"
-    with tempfile.TemporaryDirectory(prefix="making-", dir=folder) as name:
+    # Not below the checkout: there, `rt` refuses to do anything as long as it finds a second crates.txt.
+    with tempfile.TemporaryDirectory(prefix="unproved-library-") as name:
         room = pathlib.Path(name)
         if not text.exists():
             (room / "repository").mkdir()
             copy_crates(crates, room / "repository")
             keep_module(room / "repository", room / "module.bc")
             write_text(kit / "toolchain/bin/clang", room / "module.bc", room / "module.ll")
-            (room / "module.ll").rename(text)
+            put(room / "module.ll", text)
         (make_module if web else make_archive)(kit, room, text)
         for each in ["mifdagus.wasm"] if web else ["libmifdagus.so", "libmifdagus.a"]:
-            (room / each).rename(folder / each)
+            put(room / each, folder / each)
 
 
 def sum_of(crates):

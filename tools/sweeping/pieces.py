@@ -11,7 +11,7 @@ import time
 
 from reference import available, comparing, random_scripts, shrinking
 
-from . import building, mutating
+from . import building, limits, mutating
 from .library import LIMIT, TOO_LONG, USAGE, WHOLE, Library
 
 LANGUAGE = available.LANGUAGE
@@ -19,6 +19,8 @@ STATUSES = {0: 'done', 1: 'syntax', 2: 'limit', 3: 'no memory', 4: 'read fault',
 MOST_FAULTS = 3
 SECONDS_OF_AN_INPUT = 10
 SECONDS_OF_SHRINKING = 60
+# By the clock, for a program that a piece starts: only what doesn't end at all is to meet it, on a busy machine too.
+MOST_SECONDS = 3000
 
 
 class Work:
@@ -155,7 +157,7 @@ def run_memory(work, count=6):
         letter = LETTERS[words[0] if words else ''].encode()
         work.library.note(words, text)
         done = subprocess.run([work.made.refusing], input=letter + struct.pack('<Q', len(text)) + text, stdout=subprocess.PIPE,
-                              stderr=subprocess.PIPE, timeout=500)
+                              stderr=subprocess.PIPE, timeout=MOST_SECONDS)
         found = re.fullmatch(rb'(\d+) (\d+) (\d+) (\d+) (\d+)\n', done.stdout)
         work.see(int(found[5]) if found else 99, done.stdout, int(found[2]) + int(found[3]) if found else 0)
         if found:
@@ -172,7 +174,8 @@ def failing(work, words, text, **said):
         given.seek(0)
         os.dup2(failed.fileno(), 3)
         environment = {'LD_PRELOAD': work.made.failing, **{name: str(number) for name, number in said.items()}}
-        done = subprocess.run([work.made.program, *words], stdin=given, stdout=told, stderr=subprocess.DEVNULL, env=environment, pass_fds=(3,), timeout=100)
+        done = subprocess.run([work.made.program, *words], stdin=given, stdout=told, stderr=subprocess.DEVNULL, env=environment, pass_fds=(3,),
+                              timeout=MOST_SECONDS)
         told.seek(0)
         return done.returncode, told.read(), failed.tell() > 0 or os.fstat(failed.fileno()).st_size > 0
 
@@ -214,7 +217,7 @@ def sampled(output):
 def run_many(work, count=100000, each=1000):
     """Many short texts in one process (bindings/tests/many.c), each twice, and some of them beside the reference."""
     done = subprocess.run([work.made.many, str(count), str(work.number + 1), str(each), *mutating.examples_in(building.TOP)],
-                          stdout=subprocess.PIPE, stderr=subprocess.PIPE, timeout=550)
+                          stdout=subprocess.PIPE, stderr=subprocess.PIPE, timeout=MOST_SECONDS)
     said = re.match(rb'(\d+) texts .*?; (\d+) differ; statuses(.*)', done.stderr)
     if not said or done.returncode or int(said[2]):
         work.fault('many.c: status %s, %s' % (done.returncode, done.stderr.decode()[-300:]), [], b'')
@@ -230,7 +233,21 @@ def run_many(work, count=100000, each=1000):
             work.ends[STATUSES[int(status)]] += int(number)
 
 
-KINDS = {'self': run_self, 'reference': run_reference, 'mutants': run_mutants, 'command': run_command, 'memory': run_memory,
+def run_limits(work):
+    """A limit at its number and one past it, in both versions, by the library and by the command; or a page at all limits at once."""
+    name = limits.NAMES[work.number % len(limits.NAMES)]
+    for case in limits.cases(name):
+        status, reply = work.timed(case.words, case.text)
+        work.see(status, reply, 2)
+        if not case.is_met(status, reply):
+            said = (name, status, reply[-200:].decode('latin-1'), case.status, case.last)
+            work.fault('at the limit of %s: status %d, ending with %r, in place of %d, %s' % said, case.words, case.text)
+        found = comparing.program_answer([work.made.program], case.words, case.text)
+        if (found.status, found.text) != (status, reply):
+            work.fault('at the limit of %s the command answers with status %s, or otherwise' % (name, found.status), case.words, case.text)
+
+
+KINDS = {'limits': run_limits, 'self': run_self, 'reference': run_reference, 'mutants': run_mutants, 'command': run_command, 'memory': run_memory,
          'streams': run_streams, 'many': run_many}
 
 

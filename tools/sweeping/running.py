@@ -7,7 +7,7 @@ import sys
 import tempfile
 import time
 
-SECONDS_OF_A_PIECE = 900
+SECONDS_OF_A_PIECE = 3600
 # A piece whose process is ended from outside is run again so often.
 MOST_ATTEMPTS = 5
 ENDED_FROM_OUTSIDE = (-9, -15, 137, 143)
@@ -32,6 +32,10 @@ def run_in_a_process(words, seconds):
         except OSError as fault:
             return 'not started', b'', str(fault).encode(), b''
         return done.returncode, done.stdout, done.stderr, last.read()
+
+
+# Dask sends a function of the main program by its code, and any other by its name, which the workers of a scheduler elsewhere can't import.
+run_in_a_process.__module__ = '__main__'
 
 
 def result_of(piece, ended):
@@ -153,6 +157,8 @@ def hand_out(client, pieces, words_of, take):
             raise Gone('the connection is %s' % client.status)
         for future in done:
             piece = running.pop(future)
+            if future.status == 'error' and not isinstance(future.exception(), distributed.scheduler.KilledWorker):
+                raise Gone("its workers can't begin %s: %s" % (piece, future.exception()))
             result = None if future.status != 'finished' else attempts.taken(piece, future.result())
             if result is None:
                 waiting.appendleft(piece)
