@@ -126,8 +126,8 @@ def by_dask(pieces, workers, address, words_of, take):
     """Runs the pieces on the workers of a scheduler: the one at the address, or one that is started here. Raises Gone if it ends."""
     import logging
     import distributed
-    for name in ('distributed', 'tornado', 'bokeh', 'asyncio'):
-        logging.getLogger(name).setLevel(logging.CRITICAL)
+    # Its loggers have levels of their own, and one writes a traceback when the scheduler goes away, which is told by Gone.
+    logging.disable(logging.CRITICAL)
     cluster = None if address else distributed.LocalCluster(n_workers=workers, threads_per_worker=1, processes=True, dashboard_address=None)
     try:
         with distributed.Client(address or cluster, timeout=SECONDS_OF_PATIENCE) as client:
