@@ -5,7 +5,7 @@ const ENGINE = /Firefox\//.test(navigator.userAgent) ? 'firefox' : /Chrom(e|ium)
 const MOST_COMPARED = 20000;
 
 class Beside {
-  constructor(ask, classes) { Object.assign(this, { ask, classes, isBusy: false }); }
+  constructor(ask, classes, ended) { Object.assign(this, { ask, classes, ended, isBusy: false }); }
   async run(bytes, lines) {
     if (this.isBusy) return;
     this.isBusy = true;
@@ -16,7 +16,7 @@ class Beside {
       this.say(`The run in this browser failed: ${fault.message || fault}.`);
     } finally {
       this.isBusy = false;
-      at('run-browser').disabled = false;
+      this.ended();
     }
   }
   say(sentence) { at('browser-said').textContent = sentence; }

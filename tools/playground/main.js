@@ -5,7 +5,7 @@ const MOST_KEPT = 4000000, LONG_RUN = 400, WAIT_TO_KEEP = 400, MOST_BYTES = 1677
 const parts = JSON.parse(at('parts').textContent);
 const utf8 = new TextEncoder();
 let editor, runner, panes, lessons, beside;
-const state = { name: '', isOther: true, raw: null, lines: [], whole: null, text: '', shared: '', trace: null, isCut: '' };
+const state = { name: '', isOther: true, raw: null, lines: [], whole: null, text: '', shared: '', trace: null, isCut: '', isTraced: false };
 
 const say = sentence => { at('said').textContent = sentence; };
 // The bytes of the text: those of a file that isn't UTF-8 are kept as letters of Latin-1.
@@ -16,7 +16,13 @@ const bytesOf = text => state.raw ? Uint8Array.from(text, letter => letter.charC
 function run(isOther = false) {
   state.isOther ||= isOther;
   state.text = editor.text;
+  setTraced(false);
   runner.run(bytesOf(state.text), state.name);
+}
+// Whether the trace is that of the text, so that a run in the browser can be compared with it.
+function setTraced(isTraced) {
+  state.isTraced = isTraced;
+  at('run-browser').disabled = !isTraced || beside.isBusy;
 }
 function edited() {
   run();
@@ -42,7 +48,7 @@ const TOLD = {
     panes.showTrace(lines, { size: message.size, shown: message.text.length }, state.isOther, message.status === 1);
     document.documentElement.dataset.traced = message.id;
     lessons.check(isWhole ? lines : lines.slice(0, -1), state.text);
-    at('run-browser').disabled = message.status === 1;
+    setTraced(message.status !== 1 && editor.text === state.text);
   },
   picture(message) {
     const isFault = state.trace.status === 1;
@@ -343,7 +349,7 @@ async function begin() {
     const answer = await runner.ask('answer', { bytes: bytesOf(state.text), words });
     return answer && answer.text;
   });
-  beside = new Beside((kind, more) => runner.ask(kind, more), parts.classes);
+  beside = new Beside((kind, more) => runner.ask(kind, more), parts.classes, () => setTraced(state.isTraced));
   panes.choose('view');
   fillMenu();
   connect();
