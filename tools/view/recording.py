@@ -279,6 +279,8 @@ class Recording(CausedPage):
 
     def call(self, document, handler, entries=None, lines=()):
         outer, began = (self.level, self.last_entry), []
+        if lines:
+            self.causes.stirred = True                # also where the document isn't Active, so that nothing is told
         try:
             Page.call(self, document, handler, entries, self._noted(lines, handler, began))
         finally:
