@@ -1,5 +1,6 @@
 -- Boxes as they are measured, and where they are along an axis.
-use Rattle.std.proofs.Common.{◌≡◌, ◌+◌, ℕ, ℤ, true, false, Option, Some, None, refl, ap, sym, ◌∙◌, arith}
+use Rattle.std.proofs.Common.{◌≡◌, ◌+◌, ℕ, ℤ, true, false, Option, Some, None, refl, ap, sym, ◌∙◌, arith, to_z, of_z}
+use mir.Syntax.{w64}
 use Rattle.std.proofs.lemmas.Int.{ints}
 use Rattle.std.specs.Prelude.{option_map, unwrap_or, is_some, pos, ◌+ℤ◌, ◌≤ℤ◌, unsigned_abs}
 use Rattle.std.proofs.lemmas.Bool.{false≢true}
@@ -22,8 +23,8 @@ use Rattle.positioned_layout.specs.declared.insets.Axis.TheVariants.{Across, Dow
 use Rattle.positioned_layout.specs.declared.insets.Moved.{Moved}
 use Rattle.positioned_layout.specs.Along.{part, along, placed_from, moved_from}
 use Rattle.positioned_layout.specs.Measured.{Measured, above_in, measured_with, IsMeasureOf, IsMeasuredAt}
-use Rattle.positioned_layout.specs.Seen.{seen_measure, IsMeasure, IsSpan}
-use Rattle.positioned_layout.proofs.Numbers.{sum_abs}
+use Rattle.positioned_layout.specs.Seen.{seen_measure, IsMeasure, IsSpan, IsReach}
+use Rattle.positioned_layout.proofs.Numbers.{sum_abs, reach_again}
 
 box_once : (at : ℕ → Node) (inputs : Inputs) (n : ℕ) → box_in at inputs n ≡ box_at at (box_down 65535 at) inputs (at n)
 unfolding box_in box_down
@@ -230,3 +231,11 @@ flow_part at view axis n found is =
 pub point_same : (left top other below : ℤ) → left ≡ other → top ≡ below → ◌≡◌ {A = Point} (record { left = left; top = top }) (record { left = other; top = below })
 point_same left top other below first second =
     ap {B = Point} (λ x. record { left = x; top = top }) first ∙ ap {B = Point} (λ x. record { left = other; top = x }) second
+
+-- what holds on both axes
+pub each_axis : (fact : Axis → Type 0) → fact Across → fact Down → (axis : Axis) → fact axis
+each_axis fact one other Across = one
+each_axis fact one other Down = other
+
+pub pair_again : (left top : ℤ) → IsReach left → IsReach top → ◌≡◌ {A = ℤ × ℤ} (to_z w64 (of_z w64 left), to_z w64 (of_z w64 top)) (left, top)
+pair_again left top one other = ap {B = ℤ × ℤ} (λ x. (x, to_z w64 (of_z w64 top))) (reach_again left one) ∙ ap {B = ℤ × ℤ} (λ x. (left, x)) (reach_again top other)

@@ -1,5 +1,5 @@
 -- Places and boxes along one axis.
-use Rattle.std.specs.Prelude.{ℕ, ℤ, Option, Some, None, pos, ◌+ℤ◌}
+use Rattle.std.specs.Prelude.{ℕ, ℤ, Bool, true, false, Option, Some, None, pos, ◌+ℤ◌}
 use Rattle.layout_model.specs.Styles.{Sides, Position, StaticPosition, RelativePosition, AbsolutePosition, FixedPosition}
 use Rattle.layout_model.specs.Boxes.{Inputs, Box}
 use Rattle.layout_model.specs.FlatPlaces.{Along, across, down, shift_by, placed_along}
@@ -33,6 +33,11 @@ placed_from FixedPosition it corner in_flow = placed_along it corner in_flow
 abbrev pub moved_from : Moved → ℤ → ℤ → ℤ
 moved_from (FromHolder by) corner in_flow = corner +ℤ by
 moved_from (FromFlow by) corner in_flow = in_flow +ℤ by
+
+-- whether it is moved from the padding box of its holder
+abbrev pub is_held : Moved → Bool
+is_held (FromHolder by) = true
+is_held (FromFlow by) = false
 
 abbrev pub moved_by : Moved → ℤ
 moved_by (FromHolder by) = by

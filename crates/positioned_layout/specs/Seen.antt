@@ -1,5 +1,5 @@
 -- What this crate's types stand for in the definitions of layout.
-use Rattle.std.specs.Prelude.{ℕ, ◌+◌, ◌*◌, ℤ, pos, neg_ℤ, ◌≤ℤ◌, Option, Some, None, IfSome, option_map, unsigned_abs}
+use Rattle.std.specs.Prelude.{ℕ, ◌+◌, ◌*◌, ℤ, pos, neg_ℤ, ◌+ℤ◌, ◌-ℤ◌, ◌≤ℤ◌, Option, Some, None, IfSome, option_map, unsigned_abs}
 use Rattle.px_units.specs.declared.Point.{Point}
 use Rattle.px_units.specs.declared.Size.{Size}
 use Rattle.layout_model.specs.Nodes.{Holder as HolderModel, HeldByElement, HeldByPage, HeldByScreen}
@@ -86,6 +86,11 @@ IsReach units = (neg_ℤ (pos 2147483647) ≤ℤ units) × (units ≤ℤ pos 214
 -- at most as far from 0 as so many boxes can be, each placed relative to another
 abbrev pub IsNear : ℕ → ℤ → Type 0
 IsNear boxes units = (neg_ℤ (pos (4294967296 * boxes)) ≤ℤ units) × (units ≤ℤ pos (4294967296 * boxes))
+
+-- the same after a walk from one depth to another
+abbrev pub IsWalked : ℕ → ℕ → ℤ → Type 0
+IsWalked from to units =
+    (neg_ℤ (pos (4294967296 * from)) ≤ℤ (units -ℤ pos (4294967296 * to))) × ((units +ℤ pos (4294967296 * to)) ≤ℤ pos (4294967296 * from))
 
 abbrev pub IsNearPoint : ℕ → Point → Type 0
 IsNearPoint boxes point = IsNear boxes point.left × IsNear boxes point.top

@@ -6,7 +6,7 @@ ghost use Rattle.layout_model.specs.Boxes.{used_side};
 ghost use Rattle.layout_model.specs.FlatPlaces.{shift_by, placed_along};
 ghost use Rattle.style_values.specs.Ranges.{IsInset, IsSize};
 ghost use Rattle.style_values.specs.Seen.{seen_position};
-ghost use Rattle.positioned_layout.specs.Along.{placed_from, moved_from, moved_by};
+ghost use Rattle.positioned_layout.specs.Along.{placed_from, is_held, moved_from, moved_by};
 ghost use Rattle.positioned_layout.specs.Seen.{seen_side, IsSpan, IsReach, IsSide};
 
 use px_units::Length;
@@ -78,6 +78,27 @@ pub(crate) struct Side {
 pub(crate) enum Moved {
     FromHolder(i64),
     FromFlow(i64),
+}
+
+impl Moved {
+    // Whether the box is offset from its holder.
+    pub(crate) fn is_held(self) -> bool
+        ensures { result ≡ is_held self }
+    {
+        match self {
+            Moved::FromHolder(_) => true,
+            Moved::FromFlow(_) => false,
+        }
+    }
+
+    // Returns the offset.
+    pub(crate) fn by(self) -> i64
+        ensures { result ≡ moved_by self }
+    {
+        match self {
+            Moved::FromHolder(by) | Moved::FromFlow(by) => by,
+        }
+    }
 }
 
 impl Side {

@@ -1,20 +1,20 @@
 //! The places of border boxes while nothing is scrolled.
 
-ghost use Rattle.std.specs.Prelude.{◌≡◌, ◌<◌, ◌+◌, ℕ, pos, ◌+ℤ◌, Some, None, true, false, length, is_some, option_map, unsigned_abs, IfSome};
+ghost use Rattle.std.specs.Prelude.{◌≡◌, ◌<◌, ◌≤◌, ◌+◌, ℕ, Bool, cond, pos, ◌+ℤ◌, Some, None, true, false, length, is_some, option_map, unsigned_abs, IfSome};
 ghost use Rattle.layout_model.specs.Nodes.{Node, is_in_path, is_in_flow, holder};
 ghost use Rattle.layout_model.specs.Boxes.{used_insets, box_in};
 ghost use Rattle.layout_model.specs.Points.{moved};
 ghost use Rattle.layout_model.specs.Views.{View, inputs_under, inputs_in_view};
 ghost use Rattle.layout_model.specs.FlatPlaces.{offset_of, border_corner, corner_of, above_of, flat_place};
-ghost use Rattle.element_tree.specs.Forest.{IsForest, depth};
+ghost use Rattle.element_tree.specs.Forest.{IsForest, above, depth};
 ghost use Rattle.element_tree.specs.Links.{number};
 ghost use Rattle.px_units.specs.Lengths.{cap, seen_length};
 ghost use Rattle.style_values.specs.Ranges.{IsSize, IsStyle};
 ghost use Rattle.style_values.specs.Seen.{seen_style};
 ghost use Rattle.block_layout.specs.Ranges.{IsLength};
-ghost use Rattle.positioned_layout.specs.Along.{part, along, far_side, place_of};
+ghost use Rattle.positioned_layout.specs.Along.{part, along, far_side, is_held, moved_by, place_of};
 ghost use Rattle.positioned_layout.specs.Measured.{IsMeasureOf, AreMeasuresUp, IsMeasuredAt};
-ghost use Rattle.positioned_layout.specs.Seen.{as_place, seen_measure, seen_side, IsMeasure, IsReach, IsNear, IsNearPoint, IsCorner, IsCornerPoint, IsSide};
+ghost use Rattle.positioned_layout.specs.Seen.{as_place, seen_measure, seen_side, IsMeasure, IsReach, IsNear, IsWalked, IsNearPoint, IsCorner, IsCornerPoint, IsSide};
 ghost use Rattle.positioned_layout.specs.Trees.{AreNodesOf};
 
 use crate::holders::{holder_of, position};
@@ -103,14 +103,15 @@ fn offset(parent: &Measure, own: &Measure, axis: Axis) -> i64
     cut(along(parent.inner, axis) + above(own, axis) + along(own.margin, axis))
 }
 
-// The same, measuring the parent.
-fn offset_in<M: Measures>(measures: &M, parent: NodeId, own: &Measure, axis: Axis) -> i64
-    requires { IsMeasure own.now }
-    ensures value { (at : ℕ → Node) (view : View) (c : ℕ) → (at c).parent ≡ Some parent.0 → IsMeasureOf at view parent.0 (M.measured measures.now parent.0) →
-        is_some (inputs_in_view at view parent.0) ≡ true → IsMeasuredAt at view c (seen_measure own.now) → result ≡ pos (part axis (offset_of at view c)) }
+// The same, 0 without the measure of the parent.
+fn offset_in(outer: Option<Measure>, own: &Measure, axis: Axis) -> i64
+    requires outer { IfSome outer IsMeasure }
+    requires own { IsMeasure own.now }
+    ensures value { (at : ℕ → Node) (view : View) (c p : ℕ) → (at c).parent ≡ Some p → IsMeasureOf at view p (option_map seen_measure outer) →
+        is_some (inputs_in_view at view p) ≡ true → IsMeasuredAt at view c (seen_measure own.now) → result ≡ pos (part axis (offset_of at view c)) }
     ensures range { IsReach result }
 {
-    match measures.measure(parent) {
+    match outer {
         Some(outer) => offset(&outer, own, axis),
         None => 0,
     }
@@ -126,125 +127,232 @@ fn top_offset(own: &Measure, axis: Axis) -> i64
     cut(along(own.margin, axis))
 }
 
-// One step outwards along an axis: the offset of a box from the border box of another, or from the viewport.
+// One step outwards: the offset of a box from the border box of another, or from the viewport, and the measure of the other.
 #[derive(Clone, Copy)]
 struct Step {
-    by: i64,
+    left: i64,
+    top: i64,
     to: Option<NodeId>,
+    outer: Option<Measure>,
 }
 
-// Returns the step to the holder of a node's box, which is at `by` in the holder's padding box.
-fn from_holder<P: Placed, M: Measures>(
-    tree: &Tree<P>,
-    measures: &M,
-    node: NodeId,
-    by: i64,
-    axis: Axis,
-) -> Step
-    requires node { node.0 < length tree.now.nodes }
-    requires by { IsReach by }
-    ensures value { (at : ℕ → Node) (view : View) → AreNodesOf P.placed tree.now.nodes at → AreMeasuresUp at view node.0 (M.measured measures.now) →
-        is_some (inputs_in_view at view node.0) ≡ true →
-        part axis (corner_of at (flat_place at view) (holder at node.0)) +ℤ by ≡ part axis (place_of (flat_place at view) (option_map number result.to)) +ℤ result.by }
-    ensures above { IfSome result.to (λ outer. (outer.0 < length tree.now.nodes) × (depth tree.now.nodes outer.0 < depth tree.now.nodes node.0)) }
-    ensures inside { (at : ℕ → Node) → AreNodesOf P.placed tree.now.nodes at → IfSome result.to (λ outer. is_in_path at outer.0 node.0 ≡ true) }
-    ensures range { IsNear 1 result.by }
-{
-    match holder_of(tree, node) {
-        Holder::Node(element) => Step {
-            by: by + corner(measures, element, axis),
-            to: Some(element),
-        },
-        Holder::Page | Holder::Screen => Step { by, to: None },
-    }
-}
-
-// Returns the near border of an element's box.
-fn corner<M: Measures>(measures: &M, node: NodeId, axis: Axis) -> i64
-    ensures value { (at : ℕ → Node) (view : View) → IsMeasureOf at view node.0 (M.measured measures.now node.0) →
-        is_some (inputs_in_view at view node.0) ≡ true → result ≡ pos (part axis (border_corner (at node.0).item)) }
+// Returns the near border of an element's box, 0 without its measure.
+fn corner(outer: Option<Measure>, axis: Axis) -> i64
+    requires { IfSome outer IsMeasure }
+    ensures value { (at : ℕ → Node) (view : View) (n : ℕ) → IsMeasureOf at view n (option_map seen_measure outer) →
+        is_some (inputs_in_view at view n) ≡ true → result ≡ pos (part axis (border_corner (at n).item)) }
     ensures range { IsLength result }
 {
-    match measures.measure(node) {
+    match outer {
         Some(measure) => along(measure.corner, axis),
         None => 0,
     }
 }
 
-// Returns the step to a node's parent, from its static position moved by `by`.
+// Returns the step to the holder of a node's box, which is at `left` and `top` in the holder's padding box.
+fn from_holder<P: Placed, M: Measures>(
+    tree: &Tree<P>,
+    measures: &M,
+    node: NodeId,
+    left: i64,
+    top: i64,
+) -> Step
+    requires node { node.0 < length tree.now.nodes }
+    requires left { IsReach left }
+    requires top { IsReach top }
+    ensures value { (at : ℕ → Node) (view : View) → AreNodesOf P.placed tree.now.nodes at → AreMeasuresUp at view node.0 (M.measured measures.now) →
+        is_some (inputs_in_view at view node.0) ≡ true → (axis : Axis) →
+        part axis (corner_of at (flat_place at view) (holder at node.0)) +ℤ part axis (left, top)
+        ≡ part axis (place_of (flat_place at view) (option_map number result.to)) +ℤ part axis (result.left, result.top) }
+    ensures above { IfSome result.to (λ outer. (outer.0 < length tree.now.nodes) × (depth tree.now.nodes outer.0 < depth tree.now.nodes node.0)) }
+    ensures inside { (at : ℕ → Node) → AreNodesOf P.placed tree.now.nodes at → IfSome result.to (λ outer. is_in_path at outer.0 node.0 ≡ true) }
+    ensures outer { IfSome result.to (λ outer. option_map seen_measure result.outer ≡ M.measured measures.now outer.0) }
+    ensures measure { IfSome result.outer IsMeasure }
+    ensures range { IsNear 1 result.left × IsNear 1 result.top }
+{
+    match holder_of(tree, node) {
+        Holder::Node(element) => {
+            let outer = measures.measure(element);
+            Step {
+                left: left + corner(outer, Axis::Across),
+                top: top + corner(outer, Axis::Down),
+                to: Some(element),
+                outer,
+            }
+        }
+        Holder::Page | Holder::Screen => Step {
+            left,
+            top,
+            to: None,
+            outer: None,
+        },
+    }
+}
+
+// Returns the step to a node's parent, from its static position moved by `left` and `top`.
 fn from_flow<P: Placed, M: Measures>(
     tree: &Tree<P>,
     measures: &M,
     node: NodeId,
     own: &Measure,
-    by: i64,
-    axis: Axis,
+    left: i64,
+    top: i64,
 ) -> Step
     requires node { node.0 < length tree.now.nodes }
     requires own { IsMeasure own.now }
-    requires by { IsReach by }
+    requires left { IsReach left }
+    requires top { IsReach top }
     ensures value { (at : ℕ → Node) (view : View) → AreNodesOf P.placed tree.now.nodes at → AreMeasuresUp at view node.0 (M.measured measures.now) →
-        is_some (inputs_in_view at view node.0) ≡ true → IsMeasuredAt at view node.0 (seen_measure own.now) →
-        part axis (moved (above_of (flat_place at view) (at node.0).parent) (offset_of at view node.0)) +ℤ by ≡ part axis (place_of (flat_place at view) (option_map number result.to)) +ℤ result.by }
+        is_some (inputs_in_view at view node.0) ≡ true → IsMeasuredAt at view node.0 (seen_measure own.now) → (axis : Axis) →
+        part axis (moved (above_of (flat_place at view) (at node.0).parent) (offset_of at view node.0)) +ℤ part axis (left, top)
+        ≡ part axis (place_of (flat_place at view) (option_map number result.to)) +ℤ part axis (result.left, result.top) }
     ensures above { IfSome result.to (λ outer. (outer.0 < length tree.now.nodes) × (depth tree.now.nodes outer.0 < depth tree.now.nodes node.0)) }
     ensures inside { (at : ℕ → Node) → AreNodesOf P.placed tree.now.nodes at → IfSome result.to (λ outer. is_in_path at outer.0 node.0 ≡ true) }
-    ensures range { IsNear 1 result.by }
+    ensures outer { IfSome result.to (λ outer. option_map seen_measure result.outer ≡ M.measured measures.now outer.0) }
+    ensures measure { IfSome result.outer IsMeasure }
+    ensures range { IsNear 1 result.left × IsNear 1 result.top }
 {
     let Some(parent) = tree.parent(node) else {
         return Step {
-            by: top_offset(own, axis) + by,
+            left: top_offset(own, Axis::Across) + left,
+            top: top_offset(own, Axis::Down) + top,
             to: None,
+            outer: None,
         };
     };
+    let outer = measures.measure(parent);
     Step {
-        by: offset_in(measures, parent, own, axis) + by,
+        left: offset_in(outer, own, Axis::Across) + left,
+        top: offset_in(outer, own, Axis::Down) + top,
         to: Some(parent),
+        outer,
     }
 }
 
+// Returns how far a box is moved along an axis, and from where.
+fn moved_along<P: Placed>(tree: &Tree<P>, node: NodeId, own: &Measure, axis: Axis) -> Moved
+    requires node { node.0 < length tree.now.nodes }
+    requires own { IsMeasure own.now }
+    ensures value { (at : ℕ → Node) (view : View) → AreNodesOf P.placed tree.now.nodes at → IsMeasuredAt at view node.0 (seen_measure own.now) →
+        part axis (flat_place at view node.0) ≡ cond (is_held result) (part axis (corner_of at (flat_place at view) (holder at node.0)))
+        (part axis (moved (above_of (flat_place at view) (at node.0).parent) (offset_of at view node.0))) +ℤ moved_by result }
+    ensures range { IsReach (moved_by result) }
+    ensures forest { IsForest tree.now.most_depth tree.now.nodes }
+{
+    side(tree.payload(node).style(), own, axis).moved(position(tree, node))
+}
+
+// Whether a box is offset from its holder on this axis, or on both axes for `None`; `None` if the axes differ.
+fn way(across: Moved, down: Moved, axis: Option<Axis>) -> Option<bool>
+    ensures value { (held : Bool) → result ≡ Some held → (a : Axis) → IfSome axis (λ only. a ≡ only) → is_held (part a (across, down)) ≡ held }
+    ensures one { is_some axis ≡ true → is_some result ≡ true }
+{
+    match axis {
+        Some(Axis::Across) => Some(across.is_held()),
+        Some(Axis::Down) => Some(down.is_held()),
+        None => {
+            if across.is_held() == down.is_held() {
+                Some(across.is_held())
+            } else {
+                None
+            }
+        }
+    }
+}
+
+// Returns the step from a box that is moved by `left` and `top` from its holder if it is `held`, else from its place in flow.
 fn outwards<P: Placed, M: Measures>(
     tree: &Tree<P>,
     measures: &M,
     node: NodeId,
     own: &Measure,
-    axis: Axis,
+    held: bool,
+    left: i64,
+    top: i64,
 ) -> Step
     requires node { node.0 < length tree.now.nodes }
     requires own { IsMeasure own.now }
+    requires left { IsReach left }
+    requires top { IsReach top }
     ensures value { (at : ℕ → Node) (view : View) → AreNodesOf P.placed tree.now.nodes at → AreMeasuresUp at view node.0 (M.measured measures.now) →
-        is_some (inputs_in_view at view node.0) ≡ true → IsMeasuredAt at view node.0 (seen_measure own.now) →
-        part axis (flat_place at view node.0) ≡ part axis (place_of (flat_place at view) (option_map number result.to)) +ℤ result.by }
+        is_some (inputs_in_view at view node.0) ≡ true → IsMeasuredAt at view node.0 (seen_measure own.now) → (axis : Axis) →
+        cond held (part axis (corner_of at (flat_place at view) (holder at node.0)))
+        (part axis (moved (above_of (flat_place at view) (at node.0).parent) (offset_of at view node.0))) +ℤ part axis (left, top)
+        ≡ part axis (place_of (flat_place at view) (option_map number result.to)) +ℤ part axis (result.left, result.top) }
     ensures above { IfSome result.to (λ outer. (outer.0 < length tree.now.nodes) × (depth tree.now.nodes outer.0 < depth tree.now.nodes node.0)) }
     ensures inside { (at : ℕ → Node) → AreNodesOf P.placed tree.now.nodes at → IfSome result.to (λ outer. is_in_path at outer.0 node.0 ≡ true) }
-    ensures range { IsNear 1 result.by }
-    ensures forest { IsForest tree.now.most_depth tree.now.nodes }
+    ensures outer { IfSome result.to (λ outer. option_map seen_measure result.outer ≡ M.measured measures.now outer.0) }
+    ensures measure { IfSome result.outer IsMeasure }
+    ensures range { IsNear 1 result.left × IsNear 1 result.top }
 {
-    let side = side(tree.payload(node).style(), own, axis);
-    match side.moved(position(tree, node)) {
-        Moved::FromHolder(by) => from_holder(tree, measures, node, by, axis),
-        Moved::FromFlow(by) => from_flow(tree, measures, node, own, by, axis),
+    if held {
+        from_holder(tree, measures, node, left, top)
+    } else {
+        from_flow(tree, measures, node, own, left, top)
     }
 }
 
-// Sums steps outwards, each of less than 2^41 units: 65,536 of them stay within 2^57.
-fn flat_along<P: Placed, M: Measures>(tree: &Tree<P>, measures: &M, node: NodeId, axis: Axis) -> i64
+// How far a walk outwards came: the offset of its first box from the box `from`, or from the viewport.
+#[derive(Clone, Copy)]
+struct Walked {
+    left: i64,
+    top: i64,
+    from: Option<NodeId>,
+}
+
+// Walks outwards along an axis, or along both for `None`, which ends where they step to different boxes. Each step is of less
+// than 2^41 units: 65,536 of them stay within 2^57. The coordinate on an axis that isn't walked along means nothing.
+fn walk<P: Placed, M: Measures>(
+    tree: &Tree<P>,
+    measures: &M,
+    node: NodeId,
+    axis: Option<Axis>,
+) -> Walked
     requires { node.0 < length tree.now.nodes }
     ensures value { (at : ℕ → Node) (view : View) → AreNodesOf P.placed tree.now.nodes at → AreMeasuresUp at view node.0 (M.measured measures.now) →
-        is_some (inputs_in_view at view node.0) ≡ true → result ≡ part axis (flat_place at view node.0) }
-    ensures range { IsNear (depth tree.now.nodes node.0) result }
-    ensures short { IsNear 65536 result }
+        is_some (inputs_in_view at view node.0) ≡ true → (a : Axis) → IfSome axis (λ only. a ≡ only) →
+        part a (flat_place at view node.0) ≡ part a (place_of (flat_place at view) (option_map number result.from)) +ℤ part a (result.left, result.top) }
+    ensures inside { (at : ℕ → Node) (view : View) → AreNodesOf P.placed tree.now.nodes at → AreMeasuresUp at view node.0 (M.measured measures.now) →
+        is_some (inputs_in_view at view node.0) ≡ true →
+        IfSome result.from (λ from. AreMeasuresUp at view from.0 (M.measured measures.now) × (is_some (inputs_in_view at view from.0) ≡ true)) }
+    ensures one { is_some axis ≡ true → result.from ≡ None }
+    ensures within { IfSome result.from (λ from. (from.0 < length tree.now.nodes) × (depth tree.now.nodes node.0 ≤ 65536)) }
+    ensures range { IsWalked (depth tree.now.nodes node.0) (above (depth tree.now.nodes) (option_map number result.from)) result.left
+        × IsWalked (depth tree.now.nodes node.0) (above (depth tree.now.nodes) (option_map number result.from)) result.top }
+    ensures short { IsNear 65536 result.left × IsNear 65536 result.top }
 {
-    let mut place = 0;
+    let mut left = 0;
+    let mut top = 0;
     let mut next = Some(node);
+    let mut measured = measures.measure(node);
     while let Some(at) = next {
-        let Some(own) = measures.measure(at) else {
-            return place;
+        let Some(own) = measured else {
+            return Walked {
+                left,
+                top,
+                from: None,
+            };
         };
-        let step = outwards(tree, measures, at, &own, axis);
-        place += step.by;
+        let across = moved_along(tree, at, &own, Axis::Across);
+        let down = moved_along(tree, at, &own, Axis::Down);
+        let Some(held) = way(across, down, axis) else {
+            return Walked {
+                left,
+                top,
+                from: Some(at),
+            };
+        };
+        let step = outwards(tree, measures, at, &own, held, across.by(), down.by());
+        left += step.left;
+        top += step.top;
         next = step.to;
+        measured = step.outer;
     }
-    place
+    Walked {
+        left,
+        top,
+        from: None,
+    }
 }
 
 /// Returns the place of the border box of a node with a box in its document's viewport, with all scroll offsets taken as 0.
@@ -252,7 +360,8 @@ fn flat_along<P: Placed, M: Measures>(tree: &Tree<P>, measures: &M, node: NodeId
 /// flow it is offset from its holder by its insets, and on an axis without an inset it is the static position. Exact if
 /// `measures` is exact for the node and its ancestors. Doesn't allocate.
 ///
-/// It walks outwards once per axis, over the boxes of the node and of those that determine its place.
+/// It walks outwards over the boxes of the node and of those that determine its place, along both axes at once as long as
+/// they come to the same box.
 pub fn flat_place<P: Placed, M: Measures>(tree: &Tree<P>, measures: &M, node: NodeId) -> Point
     requires { node.0 < length tree.now.nodes }
     ensures value { (at : ℕ → Node) (view : View) → AreNodesOf P.placed tree.now.nodes at → AreMeasuresUp at view node.0 (M.measured measures.now) →
@@ -260,9 +369,18 @@ pub fn flat_place<P: Placed, M: Measures>(tree: &Tree<P>, measures: &M, node: No
     ensures range { IsNearPoint (depth tree.now.nodes node.0) result }
     ensures short { IsNearPoint 65536 result }
 {
+    let both = walk(tree, measures, node, None);
+    let Some(from) = both.from else {
+        return Point {
+            left: both.left,
+            top: both.top,
+        };
+    };
+    let across = walk(tree, measures, from, Some(Axis::Across));
+    let down = walk(tree, measures, from, Some(Axis::Down));
     Point {
-        left: flat_along(tree, measures, node, Axis::Across),
-        top: flat_along(tree, measures, node, Axis::Down),
+        left: both.left + across.left,
+        top: both.top + down.top,
     }
 }
 

@@ -1,34 +1,22 @@
-use Rattle.std.proofs.Common.{ℤ, refl, ap, sym, ◌∙◌}
+use Rattle.std.proofs.Common.{◌≡◌, ℤ, cond, ap, sym, ◌∙◌}
 use Rattle.std.specs.Prelude.{◌+ℤ◌}
 use Rattle.layout_model.specs.Nodes.{holder}
 use Rattle.layout_model.specs.Points.{moved}
 use Rattle.layout_model.specs.FlatPlaces.{offset_of, corner_of, above_of, flat_place}
-use Rattle.positioned_layout.specs.Along.{part, moved_from}
-use Rattle.positioned_layout.proofs.Nodes.{carried_style, shallow}
-use Rattle.positioned_layout.proofs.Numbers.{reach_again}
-use Rattle.positioned_layout.proofs.Placing.{flat_moved}
+use Rattle.positioned_layout.specs.Along.{part}
+use Rattle.positioned_layout.proofs.Placing.{pair_again}
 use Rattle.positioned_layout.proofs.places.outwards.Goals as goal
 
-pub returns-in-FromHolder-clause-value : goal.returns-in-FromHolder-clause-value
-returns-in-FromHolder-clause-value g c at view are up boxed own_is =
+pub returns-then-held-clause-value : goal.returns-then-held-clause-value
+returns-then-held-clause-value g c at view are up boxed own_is axis =
     let n = c.args.node.0 in
-    let styled = carried_style g.P.Placed.placed c.args.tree.now.nodes at are n c.payload.result.now c.payload.ensures.value ∙ sym c.style.ensures.value in
-    let corner : ℤ = part c.args.axis (corner_of at (flat_place at view) (holder at n)) in
-    let flow : ℤ = part c.args.axis (moved (above_of (flat_place at view) (at n).parent) (offset_of at view n)) in
-    flat_moved at (shallow g.P.Placed.placed c.args.tree.now.nodes at are c.payload.ensures.forest) view c.args.axis n _ (c.position.ensures.value at are) _ (c.side-side.ensures.value at view n styled own_is)
-    c.moved.result c.moved.ensures.value corner (λ out. refl)
-    ∙ ap (λ m. moved_from m corner flow) c.in-FromHolder.is
-    ∙ ap (λ x. corner +ℤ x) (sym (reach_again c.in-FromHolder.by c.in-FromHolder.ensures.range))
-    ∙ c.from_holder.ensures.value at view are up boxed
+    ap (λ h. cond h (part axis (corner_of at (flat_place at view) (holder at n))) (part axis (moved (above_of (flat_place at view) (at n).parent) (offset_of at view n))) +ℤ part axis (c.args.left, c.args.top)) c.if-held.true
+    ∙ ap (λ (q : ℤ × ℤ). part axis (corner_of at (flat_place at view) (holder at n)) +ℤ part axis q) (sym (pair_again c.args.left c.args.top c.requires.left c.requires.top))
+    ∙ c.from_holder.ensures.value at view are up boxed axis
 
-pub returns-in-FromFlow-clause-value : goal.returns-in-FromFlow-clause-value
-returns-in-FromFlow-clause-value g c at view are up boxed own_is =
+pub returns-else-held-clause-value : goal.returns-else-held-clause-value
+returns-else-held-clause-value g c at view are up boxed own_is axis =
     let n = c.args.node.0 in
-    let styled = carried_style g.P.Placed.placed c.args.tree.now.nodes at are n c.payload.result.now c.payload.ensures.value ∙ sym c.style.ensures.value in
-    let corner : ℤ = part c.args.axis (corner_of at (flat_place at view) (holder at n)) in
-    let flow : ℤ = part c.args.axis (moved (above_of (flat_place at view) (at n).parent) (offset_of at view n)) in
-    flat_moved at (shallow g.P.Placed.placed c.args.tree.now.nodes at are c.payload.ensures.forest) view c.args.axis n _ (c.position.ensures.value at are) _ (c.side-side.ensures.value at view n styled own_is)
-    c.moved.result c.moved.ensures.value corner (λ out. refl)
-    ∙ ap (λ m. moved_from m corner flow) c.in-FromFlow.is
-    ∙ ap (λ x. flow +ℤ x) (sym (reach_again c.in-FromFlow.by c.in-FromFlow.ensures.range))
-    ∙ c.from_flow.ensures.value at view are up boxed own_is
+    ap (λ h. cond h (part axis (corner_of at (flat_place at view) (holder at n))) (part axis (moved (above_of (flat_place at view) (at n).parent) (offset_of at view n))) +ℤ part axis (c.args.left, c.args.top)) c.if-held.false
+    ∙ ap (λ (q : ℤ × ℤ). part axis (moved (above_of (flat_place at view) (at n).parent) (offset_of at view n)) +ℤ part axis q) (sym (pair_again c.args.left c.args.top c.requires.left c.requires.top))
+    ∙ c.from_flow.ensures.value at view are up boxed own_is axis
